@@ -1,0 +1,110 @@
+/* Measures SHA-256 by the library, by plain C and by OpenSSL, in turn.
+   Prints a line 'NAME LENGTH SPEED' for each measurement, in MB/s; bench/run makes the table. */
+#define OPENSSL_SUPPRESS_DEPRECATED
+#include <openssl/crypto.h>
+#include <openssl/sha.h>
+#include <stdint.h>
+#include <stdio.h>
+#include <stdlib.h>
+#include <string.h>
+#include <time.h>
+
+enum { DIGEST = 32, LONGEST = 65536, ROUNDS = 10, MEASURED_BYTES = 1 << 20 };
+
+static const size_t lengths[] = {64, 1024, LONGEST};
+
+uint32_t mahqurith_sha256(const uint8_t *message, size_t length, uint8_t *digest);
+void portable_sha256(const uint8_t *message, size_t length, uint8_t *digest);
+
+struct candidate {
+    const char *name;
+    void (*hash)(const uint8_t *message, size_t length, uint8_t *digest);
+};
+
+static void die(const char *why)
+{
+    fprintf(stderr, "bench: %s\n", why);
+    exit(1);
+}
+
+static void library_sha256(const uint8_t *message, size_t length, uint8_t *digest)
+{
+    if (mahqurith_sha256(message, length, digest) != 0)
+        die("the library refused a message");
+}
+
+/* OpenSSL's deprecated calls, as on a short message they are faster than EVP. */
+static void openssl_sha256(const uint8_t *message, size_t length, uint8_t *digest)
+{
+    SHA256_CTX context;
+    if (!SHA256_Init(&context) || !SHA256_Update(&context, message, length) || !SHA256_Final(digest, &context))
+        die("OpenSSL failed");
+}
+
+/* OpenSSL's second capability word is CPUID leaf 7; bit 29 of it stands for the SHA instructions. */
+static const char *openssl_name(void)
+{
+    unsigned long long leaf7;
+    const char *settings = OPENSSL_info(OPENSSL_INFO_CPU_SETTINGS);
+    if (settings == NULL || sscanf(settings, "OPENSSL_ia32cap=%*x:%llx", &leaf7) != 1)
+        die("OpenSSL does not say which instructions it uses");
+    return leaf7 >> 29 & 1 ? "openssl-sha" : "openssl-plain";
+}
+
+static void fill(uint8_t *message, size_t length)
+{
+    uint32_t x = 1;
+    for (size_t i = 0; i < length; i++) {
+        x = x * 1664525 + 1013904223;
+        message[i] = (uint8_t)(x >> 24);
+    }
+}
+
+static void compare_digests(const struct candidate *candidates, size_t count, const uint8_t *message, size_t length)
+{
+    uint8_t first[DIGEST], other[DIGEST];
+    candidates[0].hash(message, length, first);
+    for (size_t i = 1; i < count; i++) {
+        candidates[i].hash(message, length, other);
+        if (memcmp(first, other, DIGEST) != 0) {
+            fprintf(stderr, "bench: %s and %s differ at length %zu\n", candidates[0].name, candidates[i].name, length);
+            exit(1);
+        }
+    }
+}
+
+static double seconds(void)
+{
+    struct timespec now;
+    clock_gettime(CLOCK_MONOTONIC, &now);
+    return (double)now.tv_sec + 1e-9 * (double)now.tv_nsec;
+}
+
+static double speed(struct candidate candidate, const uint8_t *message, size_t length)
+{
+    uint8_t digest[DIGEST];
+    double start = seconds();
+    for (size_t done = 0; done < MEASURED_BYTES; done += length)
+        candidate.hash(message, length, digest);
+    return MEASURED_BYTES / (seconds() - start) / 1e6;
+}
+
+int main(void)
+{
+    static uint8_t message[LONGEST];
+    fill(message, LONGEST);
+    const struct candidate candidates[] = {
+        {"library", library_sha256},
+        {"portable", portable_sha256},
+        {openssl_name(), openssl_sha256},
+    };
+    size_t count = sizeof candidates / sizeof *candidates;
+
+    for (size_t l = 0; l < sizeof lengths / sizeof *lengths; l++) {
+        compare_digests(candidates, count, message, lengths[l]);
+        for (int round = 0; round < ROUNDS; round++)
+            for (size_t i = 0; i < count; i++)
+                printf("%s %zu %.1f\n", candidates[i].name, lengths[l], speed(candidates[i], message, lengths[l]));
+    }
+    return 0;
+}

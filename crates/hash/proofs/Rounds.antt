@@ -1,0 +1,25 @@
+-- Laws of the rounds: one more round, and that n rounds read n words. Assumes nothing.
+use mathlib.Core.Path.{_≡_, refl, ap₂}
+use Prim.Native.Nat.{ℕ, zero, suc, _+_, _<_}
+use native.Mathlib.Nat.{lt-trans, lt-suc-self}
+use native.Mathlib.Numerals.{add-one}
+use mathlib.Core.List.{List}
+use lib.ListN.{getD}
+use Rattle.hash.specs.Family.{Family}
+use Rattle.hash.specs.Rounds.{Eight, round, rounds}
+
+pub rounds-more :
+    (F : Family) (W : List ℕ) (s : Eight) (n : ℕ)
+    → rounds F W s (n + 1) ≡ round F (rounds F W s n) (getD (F .K) n 0) (getD W n 0)
+unfolding rounds
+rounds-more F W s n = rw (add-one n)
+
+-- schedules that agree on the first n words lead n rounds to the same variables
+pub rounds-agree :
+    (F : Family) (W X : List ℕ) (s : Eight) (n : ℕ) → ((i : ℕ) → i < n → getD W i 0 ≡ getD X i 0)
+    → rounds F W s n ≡ rounds F X s n
+unfolding rounds
+rounds-agree F W X s zero h = refl
+rounds-agree F W X s (suc n) h =
+    ap₂ (λ (x : Eight) (w : ℕ). round F x (getD (F .K) n 0) w)
+    (rounds-agree F W X s n (λ i k. h i (lt-trans k (lt-suc-self n)))) (h n (lt-suc-self n))

@@ -1,0 +1,2 @@
+-- What strings of bytes hold, for the layouts and the hash.
+pub mod Numbers

@@ -1,0 +1,32 @@
+// Big-endian numbers in strings of bytes.
+ghost use mathlib.Core.Path.{_≡_};
+ghost use mathlib.Core.List.{[], _∷_};
+ghost use Prim.Native.Nat.{_+_, _≤_};
+ghost use lib.ListN.{length, take, drop};
+ghost use lib.Seq.{paste};
+ghost use Rattle.octets.specs.Numbers.{number-of, bytes-of};
+
+fn four_bytes(a: u8, b: u8, c: u8, d: u8) -> u32
+    ensures { λ r. ⌜ r ≡ number-of (a ∷ b ∷ c ∷ d ∷ []) ⌝ }
+{
+    a as u32 * 16777216 + b as u32 * 65536 + c as u32 * 256 + d as u32
+}
+
+// The number of four bytes from a place on.
+pub fn word_at(s: &[u8], at: usize) -> u32
+    requires { ⌜ at + 4 ≤ length (now s) ⌝ }
+    ensures { λ r. ⌜ r ≡ number-of (take 4 (drop at (now (s .entry)))) ⌝ }
+{
+    four_bytes(s[at], s[at + 1], s[at + 2], s[at + 3])
+}
+
+// Puts a number's four bytes from a place on.
+pub fn put_word(s: &mut [u8], at: usize, x: u32)
+    requires { ⌜ at + 4 ≤ length (now s) ⌝ }
+    ensures { λ _. ⌜ now (s .exit) ≡ paste (now (s .entry)) at (bytes-of 4 x) 4 ⌝ }
+{
+    s[at] = (x / 16777216 % 256) as u8;
+    s[at + 1] = (x / 65536 % 256) as u8;
+    s[at + 2] = (x / 256 % 256) as u8;
+    s[at + 3] = (x % 256) as u8;
+}
