@@ -5,9 +5,11 @@ use native.Mathlib.Nat.{zero-add}
 use native.Mathlib.Omega.{arith}
 use mathlib.Core.List.{List, [], _∷_, _++_, append-assoc}
 use lib.ListN.{length, take, drop, set, replicate, length-append, length-replicate, replicate-append-replicate}
-use lib.Seq.{paste, set-at, take-length, take-append-add, take-append-le, drop-append-le, take-paste}
+use lib.Seq.{set-at, take-append-add, take-append-le, drop-append-le}
 use Rattle.octets.specs.Numbers.{bytes-of}
+use Rattle.octets.specs.Strings.{put}
 use Rattle.octets.proofs.Numbers.{bytes-length, bytes-small}
+use Rattle.octets.proofs.Puts.{take-put}
 use Rattle.octets.proofs.Parts.{take-replicate, drop-replicate}
 use Rattle.hash.specs.Family.{Family, word-bytes, chunk-bytes, length-bytes}
 use Rattle.hash.specs.Padding.{gap, padded}
@@ -18,38 +20,45 @@ unfoldable pub ended : Family → List ℕ → ℕ → List ℕ
 ended F l n = l ++ (0x80 ∷ replicate (gap F n) 0) ++ bytes-of (length-bytes F) (8 * n)
 
 -- an area of zeros with a string and one element more in front
-marked : (l : List ℕ) (n v : ℕ) → set (paste (replicate (length l + suc n) 0) 0 l (length l)) (length l) v ≡ l ++ (v ∷ replicate n 0)
-marked l n v =
-    rw (take-length l, zero-add (length l), drop-replicate (length l) (suc n) 0) (set-at l 0 (replicate n 0) v (length l) refl)
+marked : (l : List ℕ) (n v : ℕ) → set (put (replicate (length l + suc n) 0) 0 l) (length l) v ≡ l ++ (v ∷ replicate n 0)
+unfolding put
+marked l n v = rw (zero-add (length l), drop-replicate (length l) (suc n) 0) (set-at l 0 (replicate n 0) v (length l) refl)
 
 -- three stores make an area of 128 zeros the ending of a message of n bytes, in its first e bytes
-pub ended-stored :
-    (l : List ℕ) (n e : ℕ) → length l ≡ n % 64 → n ≤ 65536 → e ≡ 64 * ((length l + 72) / 64)
-    → take e (paste (set (paste (replicate 128 0) 0 l (length l)) (length l) 0x80) (e - 4) (bytes-of 4 (8 * n)) 4) ≡ ended SHA-256 l n
-unfolding ended gap word-bytes chunk-bytes length-bytes SHA-256
-ended-stored l n e r small ends =
-    let j : ℕ = e - 5 - length l in
-    let g : ℕ = gap SHA-256 n in
-    let b : List ℕ = bytes-of 4 (8 * n) in
-    let B : List ℕ = l ++ (0x80 ∷ replicate (127 - length l) 0) in
-    let all : 128 ≡ length l + suc (127 - length l) = omega arith in
-    let stored : set (paste (replicate 128 0) 0 l (length l)) (length l) 0x80 ≡ B =
-    ap (λ (k : ℕ). set (paste (replicate k 0) 0 l (length l)) (length l) 0x80) all ∙ marked l (127 - length l) 0x80 in
-    let long : length B ≡ 128 = simp (length-append, length-replicate) (omega arith) in
-    let cut : e ≡ e - 4 + 4 = omega arith in
-    let place : e - 4 ≡ length l + suc j = omega arith in
-    let front : take (e - 4) B ≡ l ++ (0x80 ∷ replicate j 0) =
-    ap (λ (k : ℕ). take k B) place ∙ take-append-add l (0x80 ∷ replicate (127 - length l) 0) (suc j)
-    ∙ ap (λ (z : List ℕ). l ++ (0x80 ∷ z)) (take-replicate j (127 - length l) 0 (omega arith)) in
-    let zeros : g + 4 ≡ j = omega arith in
-    let behind : (l ++ (0x80 ∷ replicate g 0)) ++ replicate 4 0 ≡ l ++ (0x80 ∷ replicate j 0) =
-    append-assoc l (0x80 ∷ replicate g 0) (replicate 4 0)
-    ∙ ap (λ (z : List ℕ). l ++ (0x80 ∷ z)) (replicate-append-replicate g 4 0 ∙ ap (λ (k : ℕ). replicate k 0) zeros) in
-    ap₂ (λ (z : List ℕ) (k : ℕ). take k (paste z (e - 4) b 4)) stored cut
-    ∙ take-paste B (e - 4) b 4 (omega arith) (omega (arith, bytes-length 4 (8 * n)))
-    ∙ ap₂ (λ (x y : List ℕ). x ++ y) (front ∙ sym behind) (ap (λ (k : ℕ). take k b) (sym (bytes-length 4 (8 * n))) ∙ take-length b)
-    ∙ append-assoc (l ++ (0x80 ∷ replicate g 0)) (replicate 4 0) b
-    ∙ ap (λ (z : List ℕ). (l ++ (0x80 ∷ replicate g 0)) ++ z) (sym (bytes-small 4 4 (8 * n) (omega arith)))
+module _ (l : List ℕ) (n e : ℕ) (r : length l ≡ n % 64) (small : n ≤ 65536) (ends : e ≡ 64 * ((length l + 72) / 64)) where
+  body : List ℕ
+  body = l ++ (0x80 ∷ replicate (127 - length l) 0)
+
+  body-stored : set (put (replicate 128 0) 0 l) (length l) 0x80 ≡ body
+  unfolding body
+  body-stored =
+      let all : 128 ≡ length l + suc (127 - length l) = omega arith in
+      ap (λ (k : ℕ). set (put (replicate k 0) 0 l) (length l) 0x80) all ∙ marked l (127 - length l) 0x80
+
+  body-length : length body ≡ 128
+  unfolding body
+  body-length = simp (length-append, length-replicate) (omega arith)
+
+  -- before the last four bytes stand the message's last, the byte 0x80 and zeros: the gap's, and four of the length field's
+  body-front : take (e - 4) body ≡ (l ++ (0x80 ∷ replicate (gap SHA-256 n) 0)) ++ replicate 4 0
+  unfolding body gap word-bytes chunk-bytes length-bytes SHA-256
+  body-front =
+      let j : ℕ = gap SHA-256 n + 4 in
+      let place : e - 4 ≡ length l + suc j = omega arith in
+      ap (λ (k : ℕ). take k body) place ∙ take-append-add l (0x80 ∷ replicate (127 - length l) 0) (suc j)
+      ∙ ap (λ (z : List ℕ). l ++ (0x80 ∷ z)) (take-replicate j (127 - length l) 0 (omega arith) ∙ sym (replicate-append-replicate (gap SHA-256 n) 4 0))
+      ∙ sym (append-assoc l (0x80 ∷ replicate (gap SHA-256 n) 0) (replicate 4 0))
+
+  pub ended-stored : take e (put (set (put (replicate 128 0) 0 l) (length l) 0x80) (e - 4) (bytes-of 4 (8 * n))) ≡ ended SHA-256 l n
+  unfolding ended word-bytes length-bytes SHA-256
+  ended-stored =
+      let b : List ℕ = bytes-of 4 (8 * n) in
+      let four : length b ≡ 4 = bytes-length 4 (8 * n) in
+      let cut : e ≡ e - 4 + length b = omega arith in
+      ap₂ (λ (z : List ℕ) (k : ℕ). take k (put z (e - 4) b)) body-stored cut
+      ∙ take-put body (e - 4) b (omega (arith, body-length)) ∙ ap (λ (x : List ℕ). x ++ b) body-front
+      ∙ append-assoc (l ++ (0x80 ∷ replicate (gap SHA-256 n) 0)) (replicate 4 0) b
+      ∙ ap (λ (z : List ℕ). (l ++ (0x80 ∷ replicate (gap SHA-256 n) 0)) ++ z) (sym (bytes-small 4 4 (8 * n) (omega arith)))
 
 -- a padded message, cut where its whole chunks end
 module _ (m : List ℕ) (q : ℕ) (whole : q ≡ length m / 64) where

@@ -6,9 +6,11 @@ use native.Mathlib.Numerals.{add-one}
 use native.Mathlib.Omega.{arith}
 use mathlib.Core.List.{List, [], _∷_, _++_}
 use lib.ListN.{length, getD, take, drop, set, length-append}
-use lib.Seq.{paste, take-suc-set, take-paste}
+use lib.Seq.{take-suc-set}
 use Rattle.octets.specs.Numbers.{number-of, bytes-of}
+use Rattle.octets.specs.Strings.{put}
 use Rattle.octets.proofs.Numbers.{bytes-length}
+use Rattle.octets.proofs.Puts.{take-put}
 use Rattle.hash.specs.Padding.{words}
 use Rattle.hash.specs.Digest.{joined}
 
@@ -25,12 +27,12 @@ words-length k s (suc n) = simp (length-append, words-length k s n) (add-one n)
 
 pub joined-stored :
     (H out : List ℕ) (n : ℕ) → 4 * n + 4 ≤ length out → take (4 * n) out ≡ joined 4 H n
-    → take (4 * (n + 1)) (paste out (4 * n) (bytes-of 4 (getD H n 0)) 4) ≡ joined 4 H (n + 1)
-unfolding bytes-of joined
+    → take (4 * (n + 1)) (put out (4 * n) (bytes-of 4 (getD H n 0))) ≡ joined 4 H (n + 1)
+unfolding joined
 joined-stored H out n h p =
-    let e : 4 * (n + 1) ≡ 4 * n + 4 = omega arith in
-    rw (e, add-one n)
-    (take-paste out (4 * n) (bytes-of 4 (getD H n 0)) 4 (omega arith) (omega arith) ∙ ap (λ (l : List ℕ). l ++ bytes-of 4 (getD H n 0)) p)
+    let b : List ℕ = bytes-of 4 (getD H n 0) in
+    let e : 4 * (n + 1) ≡ 4 * n + length b = omega (arith, bytes-length 4 (getD H n 0)) in
+    rw (e, add-one n) (take-put out (4 * n) b (omega arith) ∙ ap (λ (l : List ℕ). l ++ b) p)
 
 pub joined-length : (k : ℕ) (H : List ℕ) (n : ℕ) → length (joined k H n) ≡ k * n
 unfolding joined

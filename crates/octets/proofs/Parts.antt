@@ -24,6 +24,10 @@ pub drop-replicate : (n m : ℕ) (a : ℕ) → drop n (replicate (n + m) a) ≡ 
 drop-replicate zero m a = ap (λ (k : ℕ). replicate k a) (zero-add m)
 drop-replicate (suc n) m a = rw (suc-add n m) (drop-replicate n m a)
 
+-- what is left from i on begins with element i
+pub drop-next : (l : List ℕ) (i : ℕ) → i < length l → drop i l ≡ getD l i 0 ∷ drop (i + 1) l
+drop-next l i h = rw (add-one i) (drop-cons l i 0 h)
+
 -- a part begins with the element at its place
 pub part-cons : (l : List ℕ) (i n : ℕ) → i < length l → take (suc n) (drop i l) ≡ getD l i 0 ∷ take n (drop (i + 1) l)
 part-cons l i n h = rw (add-one i, drop-cons l i 0)

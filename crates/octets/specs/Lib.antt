@@ -1,2 +1,3 @@
 -- What strings of bytes hold, for the layouts and the hash.
 pub mod Numbers
+pub mod Strings

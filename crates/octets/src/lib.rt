@@ -1,7 +1,13 @@
-// Strings of bytes: the one way to copy them, and the one way to read and write numbers in them.
+// Strings of bytes: the one way to copy them, to compare them, and to read and write numbers in them.
+mod compare;
 mod copy;
 mod number;
 
+pub use compare::is_before;
+pub use compare::is_same;
+pub use compare::is_zero;
 pub use copy::copy_at;
+pub use number::number_at;
+pub use number::put_number;
 pub use number::put_word;
 pub use number::word_at;

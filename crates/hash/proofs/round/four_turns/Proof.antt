@@ -42,7 +42,7 @@ same-length c = search needs
 
 -- src/round.rt:96:1
 returns : tie.Need-returns
-returns c = 
+returns c =
     let two = turns-then SHA-256 _ _ _ _ 1 1 _ 2 refl refl (c .before .before .before .before .before .before .before .before .before .before .before .before .before .before .one-turn .ensures) (c .before .before .before .before .before .before .before .before .before .before .one-turn2 .ensures) in
     let three = turns-then SHA-256 _ _ _ _ 2 1 _ 3 refl refl two (c .before .before .before .before .before .before .one-turn3 .ensures) in
     turns-then SHA-256 _ _ _ _ 3 1 _ 4 refl refl three (c .before .before .one-turn4 .ensures)

@@ -1,3 +1,4 @@
+use Rattle.octets.proofs.Puts.{put-paste}
 use mathlib.Core.Path.{_≡_, sym, ap, _∙_}
 use mathlib.Core.List.{List}
 use Prim.Native.Nat.{ℕ, _+_, _≤_, _-_}
@@ -68,7 +69,7 @@ returns c =
     let a = c .before .before .args in
     let l = c .before .loop in
     let e : l .i ≡ length (now (a .src)) = omega arith in
-    l .inv .1 ∙ ap (paste (now (a .dst)) (a .at) (now (a .src))) e
+    l .inv .1 ∙ ap (paste (now (a .dst)) (a .at) (now (a .src))) e ∙ put-paste (now (a .dst)) (a .at) (now (a .src))
 
 pub copy-at-spec : {M : Type 1} → statement M
 copy-at-spec =

@@ -1,3 +1,4 @@
+use Rattle.octets.specs.Strings.{put}
 use native.Mathlib.Omega.{arith}
 use native.Mathlib.Nat.{div-one}
 use denote.Ref.{now}
@@ -60,7 +61,7 @@ same-length c = search needs
 
 -- src/number.rt:24:1
 returns : tie.Need-returns
-unfolding bytes-of
+unfolding bytes-of put
 returns c = rw (div-one (c .args .x)) (four-stores (now (c .args .s)) (c .args .at) _ _ _ _ (c .pre))
 
 pub put-word-spec : {M : Type 1} → statement M
