@@ -3,3 +3,4 @@ pub mod Compared
 pub mod Numbers
 pub mod Parts
 pub mod Puts
+pub mod RoundTrips
