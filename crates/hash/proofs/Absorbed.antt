@@ -1,9 +1,9 @@
 -- Laws of the hash value after chunks: it goes on from chunk to chunk, and the first chunks are all that it reads. Assumes nothing.
 use mathlib.Core.Path.{_≡_, refl, sym, ap, ap₂, _∙_}
+use mathlib.Core.List.{List}
 use Prim.Native.Nat.{ℕ, zero, suc, _+_, _*_, _≤_}
 use native.Mathlib.Nat.{add-zero, add-suc, mul-add, mul-suc, le-add-right}
 use native.Mathlib.Numerals.{add-one}
-use mathlib.Core.List.{List}
 use lib.ListN.{take, drop}
 use lib.Seq.{drop-drop, take-take}
 use Rattle.octets.proofs.Parts.{drop-take}

@@ -1,7 +1,6 @@
 -- Worked examples for the definitions, computed by the checker: those published with the standard for SHA-256. Assumes nothing.
 use mathlib.Core.Path.{_≡_, refl}
-use Prim.Native.Nat.{ℕ}
-use mathlib.Core.List.{List, [], _∷_}
+use mathlib.Core.List.{[], _∷_}
 use Rattle.octets.specs.Numbers.{number-of, bytes-of}
 use Rattle.hash.specs.Words.{complement, plus, shl, shr, rotr}
 use Rattle.hash.specs.Functions.{Ch, Maj, upper-sigma, lower-sigma}

@@ -4,7 +4,9 @@ pub mod Table
 pub mod Absorbed
 pub mod Digests
 pub mod Examples
+pub mod Gap
 pub mod Padded
+pub mod Promised
 pub mod Rounds
 pub mod Schedule
 pub mod Turns

@@ -1,9 +1,9 @@
 -- Laws of padding: what an area of zeros holds after the last bytes, the byte 0x80 and the length are stored, and where a padded message is cut. Assumes nothing.
 use mathlib.Core.Path.{_≡_, refl, sym, ap, ap₂, _∙_}
-use Prim.Native.Nat.{ℕ, zero, suc, _+_, _-_, _*_, _/_, _%_, _≤_, _<_}
+use mathlib.Core.List.{List, _∷_, _++_, append-assoc}
+use Prim.Native.Nat.{ℕ, suc, _+_, _-_, _*_, _/_, _%_, _≤_}
 use native.Mathlib.Nat.{zero-add}
 use native.Mathlib.Omega.{arith}
-use mathlib.Core.List.{List, [], _∷_, _++_, append-assoc}
 use lib.ListN.{length, take, drop, set, replicate, length-append, length-replicate, replicate-append-replicate}
 use lib.Seq.{set-at, take-append-add, take-append-le, drop-append-le}
 use Rattle.octets.specs.Numbers.{bytes-of}
@@ -43,10 +43,10 @@ module _ (l : List ℕ) (n e : ℕ) (r : length l ≡ n % 64) (small : n ≤ 655
   body-front : take (e - 4) body ≡ (l ++ (0x80 ∷ replicate (gap SHA-256 n) 0)) ++ replicate 4 0
   unfolding body gap word-bytes chunk-bytes length-bytes SHA-256
   body-front =
-      let j : ℕ = gap SHA-256 n + 4 in
-      let place : e - 4 ≡ length l + suc j = omega arith in
-      ap (λ (k : ℕ). take k body) place ∙ take-append-add l (0x80 ∷ replicate (127 - length l) 0) (suc j)
-      ∙ ap (λ (z : List ℕ). l ++ (0x80 ∷ z)) (take-replicate j (127 - length l) 0 (omega arith) ∙ sym (replicate-append-replicate (gap SHA-256 n) 4 0))
+      let place : e - 4 ≡ length l + suc (gap SHA-256 n + 4) = omega arith in
+      ap (λ (k : ℕ). take k body) place ∙ take-append-add l (0x80 ∷ replicate (127 - length l) 0) (suc (gap SHA-256 n + 4))
+      ∙ ap (λ (z : List ℕ). l ++ (0x80 ∷ z))
+      (take-replicate (gap SHA-256 n + 4) (127 - length l) 0 (omega arith) ∙ sym (replicate-append-replicate (gap SHA-256 n) 4 0))
       ∙ sym (append-assoc l (0x80 ∷ replicate (gap SHA-256 n) 0) (replicate 4 0))
 
   pub ended-stored : take e (put (set (put (replicate 128 0) 0 l) (length l) 0x80) (e - 4) (bytes-of 4 (8 * n))) ≡ ended SHA-256 l n

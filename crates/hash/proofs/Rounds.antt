@@ -1,9 +1,9 @@
 -- Laws of the rounds: one more round, and that n rounds read n words. Assumes nothing.
 use mathlib.Core.Path.{_≡_, refl, ap₂}
+use mathlib.Core.List.{List}
 use Prim.Native.Nat.{ℕ, zero, suc, _+_, _<_}
 use native.Mathlib.Nat.{lt-trans, lt-suc-self}
 use native.Mathlib.Numerals.{add-one}
-use mathlib.Core.List.{List}
 use lib.ListN.{getD}
 use Rattle.hash.specs.Family.{Family}
 use Rattle.hash.specs.Rounds.{Eight, round, rounds}

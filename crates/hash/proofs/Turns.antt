@@ -1,9 +1,9 @@
 -- Turns one after the other, and that turns from word 16 on are the schedule and the rounds of the standard. Assumes nothing.
 use mathlib.Core.Path.{_≡_, refl, sym, ap, ap₂, _∙_}
+use mathlib.Core.List.{List, [], _∷_, _++_}
 use Prim.Native.Nat.{ℕ, zero, suc, _+_, _≤_, _<_}
 use native.Mathlib.Nat.{add-zero, add-suc, add-assoc}
 use native.Mathlib.Omega.{arith}
-use mathlib.Core.List.{List, [], _∷_, _++_}
 use lib.ListN.{length, getD, take, set, length-set, List·getD-append}
 use lib.Seq.{take-suc-set, getD-at, getD-take}
 use Rattle.hash.specs.Family.{Family}

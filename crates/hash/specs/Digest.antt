@@ -1,6 +1,6 @@
 -- FIPS 180-4, 6.2 and 6.4: the hash value after each chunk, and the message digest.
+use mathlib.Core.List.{List, [], _++_}
 use Prim.Native.Nat.{ℕ, zero, suc, _/_}
-use mathlib.Core.List.{List, [], _∷_, _++_}
 use lib.ListN.{length, take, getD}
 use Rattle.octets.specs.Numbers.{bytes-of}
 use Rattle.hash.specs.Family.{Family, word-bytes, chunk-bytes}

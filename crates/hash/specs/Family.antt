@@ -1,6 +1,6 @@
 -- What the hash functions of FIPS 180-4 with eight working variables differ in (Figure 1, 4.1, 4.2, 5.3).
-use Prim.Native.Nat.{ℕ, _*_, _/_}
 use mathlib.Core.List.{List}
+use Prim.Native.Nat.{ℕ, _*_, _/_}
 
 pub record Family : Type 0 where
   -- w, the bits of a word

@@ -1,6 +1,6 @@
 -- FIPS 180-4, 5.1 and 5.2: padding the message, and parsing it into chunks of sixteen words. Messages are strings of bytes.
-use Prim.Native.Nat.{ℕ, zero, suc, _+_, _-_, _*_, _/_, _%_}
 use mathlib.Core.List.{List, [], _∷_, _++_}
+use Prim.Native.Nat.{ℕ, zero, suc, _+_, _-_, _*_, _%_}
 use lib.ListN.{length, take, drop, replicate}
 use Rattle.octets.specs.Numbers.{number-of, bytes-of}
 use Rattle.hash.specs.Family.{Family, word-bytes, chunk-bytes, length-bytes}

@@ -1,7 +1,7 @@
 -- The whole outcome of the library's call. 01, "The hash": "The rules are those of FIPS 180-4, for inputs of 0 to 65,536 bytes; a longer one is refused with 25."
-use Prim.Native.Nat.{ℕ}
 use mathlib.Core.Bool.{Bool, true, false}
 use mathlib.Core.List.{List}
+use Prim.Native.Nat.{ℕ}
 use lib.ListN.{length}
 use lib.Dec.{leb}
 use Rattle.refusals.specs.{accepted, input-too-long}

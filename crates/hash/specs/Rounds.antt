@@ -1,6 +1,6 @@
 -- FIPS 180-4, 6.2.2 and 6.4.2, steps 2 to 4: the working variables, the rounds and the next intermediate hash value.
-use Prim.Native.Nat.{ℕ, zero, suc, _+_}
 use mathlib.Core.List.{List, [], _∷_}
+use Prim.Native.Nat.{ℕ, zero, suc, _+_}
 use lib.ListN.{getD}
 use Rattle.hash.specs.Words.{plus}
 use Rattle.hash.specs.Functions.{Ch, Maj}

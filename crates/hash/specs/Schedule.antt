@@ -1,6 +1,6 @@
 -- FIPS 180-4, 6.2.2 and 6.4.2, step 1: the message schedule.
-use Prim.Native.Nat.{ℕ, zero, suc, _+_, _-_}
 use mathlib.Core.List.{List, [], _∷_, _++_}
+use Prim.Native.Nat.{ℕ, zero, suc, _+_, _-_}
 use lib.ListN.{getD}
 use Rattle.hash.specs.Words.{plus}
 use Rattle.hash.specs.Family.{Family}

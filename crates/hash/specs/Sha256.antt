@@ -1,6 +1,6 @@
 -- SHA-256: FIPS 180-4, 4.1.2 (the sigmas), 4.2.2 (the constants), 5.3.3 (the initial hash value), 6.2.
-use Prim.Native.Nat.{ℕ}
 use mathlib.Core.List.{List, [], _∷_}
+use Prim.Native.Nat.{ℕ}
 use Rattle.hash.specs.Functions.{upper-sigma, lower-sigma}
 use Rattle.hash.specs.Family.{Family}
 use Rattle.hash.specs.Digest.{digest}

@@ -1,8 +1,8 @@
 -- Laws of big-endian numbers. Assumes nothing.
 use mathlib.Core.Path.{_≡_, refl, sym, ap, ap₂, _∙_}
-use Prim.Native.Nat.{ℕ, zero, suc, _+_, _/_, _%_, _*_, _^_, _≤_, _<_}
-use native.Mathlib.Nat.{zero-mul, add-mul, mul-assoc, mul-comm, add-assoc, div-div-eq-div-mul, zero-add, suc-add, le-add-left, lt-of-lt-of-le, div-eq-of-lt, pow-le-pow-right}
 use mathlib.Core.List.{List, [], _∷_, _++_}
+use Prim.Native.Nat.{ℕ, zero, suc, _+_, _/_, _%_, _*_, _^_, _<_}
+use native.Mathlib.Nat.{zero-mul, add-mul, mul-assoc, mul-comm, add-assoc, div-div-eq-div-mul, zero-add, suc-add, le-add-left, lt-of-lt-of-le, div-eq-of-lt, pow-le-pow-right}
 use native.Mathlib.Omega.{arith}
 use lib.ListN.{length, replicate, length-append}
 use lib.Pow.{pow-add}

@@ -1,11 +1,11 @@
 -- Laws of a string put into another: its length, its parts, and one put after the other. Assumes nothing.
-use mathlib.Core.Path.{_≡_, refl, sym, ap, ap₂, _∙_}
-use Prim.Native.Nat.{ℕ, zero, suc, _+_, _≤_}
-use native.Mathlib.Nat.{add-zero, zero-add, add-assoc}
+use mathlib.Core.Path.{_≡_, sym, ap, ap₂, _∙_}
+use mathlib.Core.List.{List, _++_, append-assoc, append-nil}
+use Prim.Native.Nat.{ℕ, _+_, _≤_}
+use native.Mathlib.Nat.{zero-add, add-assoc}
 use native.Mathlib.Omega.{arith}
-use mathlib.Core.List.{List, [], _∷_, _++_, append-assoc, append-nil}
 use lib.ListN.{length, take, drop, length-append, length-take, length-drop}
-use lib.Seq.{drop-drop, paste, take-length, take-at, drop-at, length-take-le, drop-length, take-append-le, drop-append-le}
+use lib.Seq.{drop-drop, paste, take-length, take-at, drop-at, length-take-le, drop-length}
 use Rattle.octets.specs.Strings.{put}
 
 -- as the library has it for a copy

@@ -1,13 +1,13 @@
 -- The round trip, for every layout: what is written reads back as the same contents, and what reading accepts is written again as the same string.
 -- A layout owes one fact: contents that fit are cut out of what they are written as. Assumes nothing.
-use mathlib.Core.Path.{_≡_, refl, sym, ap, ap₂, _∙_, subst}
+use mathlib.Core.Path.{_≡_, refl, ap₂}
 use mathlib.Core.Bool.{Bool, true, false, cond, _&&_}
-use mathlib.Core.Option.{Option, none, some}
-use Prim.Native.Nat.{ℕ}
+use mathlib.Core.Option.{none, some}
 use mathlib.Core.List.{List, [], _∷_}
+use Prim.Native.Nat.{ℕ}
 use native.Mathlib.Omega.{arith}
-use lib.Dec.{eqb}
 use borrow.Author.Tests.{eqb-true, eq-eqb}
+use lib.Dec.{eqb}
 use Rattle.octets.specs.Strings.{same}
 use Rattle.octets.specs.Layouts.{Layout, holds, read}
 

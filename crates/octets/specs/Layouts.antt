@@ -1,9 +1,9 @@
 -- What a layout is, and reading and writing by it. 01, "Layouts": "Reading a rack, roll or statement by itself refuses .. exactly when the layout is
 -- broken; writing one refuses with that number for contents no reading gives, then with 1 for an area too short."
-use Prim.Native.Nat.{ℕ}
-use mathlib.Core.Bool.{Bool, true, false, cond, _&&_}
+use mathlib.Core.Bool.{Bool, cond, _&&_}
 use mathlib.Core.Option.{Option, none, some}
 use mathlib.Core.List.{List}
+use Prim.Native.Nat.{ℕ}
 use lib.ListN.{length}
 use lib.Dec.{ltb}
 use Rattle.octets.specs.Strings.{put, same}

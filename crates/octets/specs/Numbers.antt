@@ -1,6 +1,6 @@
 -- Numbers and strings of bytes. 01, "Layouts": "Numbers are big-endian." FIPS 180-4, 3.1, says the same of its words.
-use Prim.Native.Nat.{ℕ, zero, suc, _+_, _*_, _/_, _%_, _^_}
 use mathlib.Core.List.{List, [], _∷_}
+use Prim.Native.Nat.{ℕ, zero, suc, _+_, _*_, _/_, _%_, _^_}
 use lib.ListN.{length}
 
 -- the number that a string of bytes is, the first byte the highest

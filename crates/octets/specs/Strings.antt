@@ -1,7 +1,7 @@
 -- Strings of bytes put into others, compared and cut. 01, "Layouts": "strictly rising in byte order", "not all zero".
-use Prim.Native.Nat.{ℕ, zero, suc, _+_}
 use mathlib.Core.Bool.{Bool, true, false, cond, _&&_}
 use mathlib.Core.List.{List, [], _∷_, _++_}
+use Prim.Native.Nat.{ℕ, zero, suc, _+_}
 use lib.ListN.{length, take, drop}
 use lib.Dec.{eqb, ltb}
 

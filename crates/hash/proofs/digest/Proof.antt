@@ -1,8 +1,10 @@
+-- `hash::digest` meets its contract. Assumes nothing.
 use mathlib.Core.Path.{_≡_, refl, sym, ap, _∙_}
 use mathlib.Core.List.{List}
 use Prim.Native.Nat.{ℕ, _+_, _-_, _*_, _/_, _%_}
 use native.Mathlib.Omega.{arith}
 use denote.Ref.{now}
+use borrow.Author.Needs.{needs}
 use lib.ListN.{length, take, drop, length-drop}
 use lib.Seq.{take-all}
 use Rattle.hash.specs.Family.{word-bytes, length-bytes}
@@ -10,65 +12,45 @@ use Rattle.hash.specs.Digest.{absorbed, joined}
 use Rattle.hash.specs.Sha256.{initial-value, SHA-256}
 use Rattle.hash.proofs.Padded.{ended}
 use Rattle.hash.proofs.Digests.{digest-by}
-use borrow.Author.Needs.{needs}
 use Rattle.hash.proofs.digest.Statement.{statement}
 use Rattle.hash.proofs.digest.Tie as tie
-use Rattle.hash.proofs.digest.Reads as reads
-use Rattle.hash.proofs.digest.Lts as lts
-use Rattle.hash.proofs.chunk.absorb.Reads as absorb-reads
-use Rattle.hash.proofs.ending.ending.Reads as ending-reads
-use Rattle.hash.proofs.ending.ending_chunks.Reads as ending-chunks-reads
-use Rattle.hash.proofs.words.joined_words.Reads as joined-words-reads
 
--- src/lib.rt:29:29
 slice-aggregate-absorb : tie.Need-slice-aggregate-absorb
 slice-aggregate-absorb c = search needs
 
--- src/lib.rt:29:9
 absorb-requires : tie.Need-absorb-requires
 absorb-requires c κs = search needs
 
--- src/lib.rt:30:32
 mul-ending : tie.Need-mul-ending
 mul-ending c = search needs
 
--- src/lib.rt:30:23
 sub-ending : tie.Need-sub-ending
 sub-ending c = search needs
 
--- src/lib.rt:30:23
 part-ending-start : tie.Need-part-ending-start
 part-ending-start c = search needs
 
--- src/lib.rt:30:23
 part-ending-end : tie.Need-part-ending-end
 part-ending-end c = search needs
 
--- src/lib.rt:30:16
 ending-requires : tie.Need-ending-requires
 ending-requires c κs = search needs
 
--- src/lib.rt:31:28
 slice-aggregate-absorb-2 : tie.Need-slice-aggregate-absorb-2
 slice-aggregate-absorb-2 c = search needs
 
--- src/lib.rt:31:43
 slice-aggregate-absorb-3 : tie.Need-slice-aggregate-absorb-3
 slice-aggregate-absorb-3 c = search needs
 
--- src/lib.rt:31:50
 ending-chunks-requires : tie.Need-ending-chunks-requires
 ending-chunks-requires c κs = search needs
 
--- src/lib.rt:31:18
 absorb-requires-2 : tie.Need-absorb-requires-2
 absorb-requires-2 c κs = search needs
 
--- src/lib.rt:31:5
 joined-words-requires : tie.Need-joined-words-requires
 joined-words-requires c κs = search needs
 
--- src/lib.rt:23:1
 returns : tie.Need-returns
 unfolding ended word-bytes length-bytes initial-value SHA-256
 returns c =

@@ -1,22 +1,17 @@
+-- `hash::sha256` meets its contract. Assumes nothing.
 use borrow.Author.Tests.{le-leb, lt-leb}
-use Rattle.hash.specs.Promise.{hashing}
 use borrow.Author.Needs.{needs}
+use Rattle.hash.specs.Promise.{hashing}
 use Rattle.hash.proofs.sha256.Statement.{statement}
 use Rattle.hash.proofs.sha256.Tie as tie
-use Rattle.hash.proofs.sha256.Reads as reads
-use Rattle.hash.proofs.sha256.Lts as lts
-use Rattle.hash.proofs.digest.Reads as digest-reads
 
--- src/lib.rt:39:9
 returns : tie.Need-returns
 unfolding hashing
 returns c = rw (lt-leb _ _ (c .if1 .taken))
 
--- src/lib.rt:41:13
 digest-requires : tie.Need-digest-requires
 digest-requires c κs = search needs
 
--- src/lib.rt:35:1
 returns-2 : tie.Need-returns-2
 unfolding hashing
 returns-2 c = rw (le-leb _ _ (c .before .if1 .left)) (cc)

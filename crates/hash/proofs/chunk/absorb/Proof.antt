@@ -1,22 +1,19 @@
-use denote.Ref.{now}
+-- `hash::chunk::absorb` meets its contract. Assumes nothing.
 use mathlib.Core.List.{List}
+use mathlib.Core.Path.{_≡_, sym, ap, _∙_}
+use Prim.Native.Nat.{ℕ, _+_, _*_, _≤_, _-_}
+use native.Mathlib.Omega.{arith}
+use denote.Ref.{now}
+use borrow.Author.Needs.{needs}
+use lib.ListN.{length-take, length-drop, length}
 use Rattle.hash.specs.Family.{word-bytes, chunk-bytes}
 use Rattle.hash.specs.Padding.{chunk}
 use Rattle.hash.specs.Rounds.{compressed}
 use Rattle.hash.proofs.Absorbed.{absorbed-more}
-use native.Mathlib.Omega.{arith}
-use lib.ListN.{length-take, length-drop}
-use mathlib.Core.Path.{_≡_, sym, ap, _∙_}
-use Prim.Native.Nat.{ℕ, _+_, _*_, _≤_, _-_}
-use borrow.Author.Needs.{needs}
-use lib.ListN.{length}
 use Rattle.hash.specs.Digest.{absorbed}
 use Rattle.hash.specs.Sha256.{SHA-256}
 use Rattle.hash.proofs.chunk.absorb.Statement.{statement}
 use Rattle.hash.proofs.chunk.absorb.Tie as tie
-use Rattle.hash.proofs.chunk.absorb.Reads as reads
-use Rattle.hash.proofs.chunk.absorb.Lts as lts
-use Rattle.hash.proofs.chunk.compress.Reads as compress-reads
 
 abbrev Inv-loop : tie.InvT-loop
 Inv-loop w₀ s count value₀ i₀ w value i = (i ≤ count) × (length w ≡ 64) × (value ≡ absorbed SHA-256 value₀ s i)
@@ -24,44 +21,34 @@ Inv-loop w₀ s count value₀ i₀ w value i = (i ≤ count) × (length w ≡ 6
 abbrev μ-loop : tie.MeasureT-loop
 μ-loop w₀ s count value₀ i₀ w value i = count - i
 
--- src/chunk.rt:77:5
 loop-holds : tie.Need-loop-holds Inv-loop μ-loop
 unfolding absorbed
 loop-holds c = search needs
 
--- src/chunk.rt:78:20
 mul-from : tie.Need-mul-from Inv-loop μ-loop
 mul-from c = search needs
 
--- src/chunk.rt:79:46
 add-compress : tie.Need-add-compress Inv-loop μ-loop
 add-compress c = search needs
 
--- src/chunk.rt:79:37
 sub-compress : tie.Need-sub-compress Inv-loop μ-loop
 sub-compress c = search needs
 
--- src/chunk.rt:79:37
 part-compress-start : tie.Need-part-compress-start Inv-loop μ-loop
 part-compress-start c = search needs
 
--- src/chunk.rt:79:37
 part-compress-end : tie.Need-part-compress-end Inv-loop μ-loop
 part-compress-end c = search needs
 
--- src/chunk.rt:79:13
 compress-requires : tie.Need-compress-requires Inv-loop μ-loop
 compress-requires c κs = (c .before .before .before .loop .inv .1, simp (length-take, length-drop) (omega arith))
 
--- src/chunk.rt:81:9
 add-i : tie.Need-add-i Inv-loop μ-loop
 add-i c = search needs
 
--- src/chunk.rt:77:5
 loop-less : tie.Need-loop-less Inv-loop μ-loop
 loop-less c = search needs
 
--- src/chunk.rt:77:5
 loop-again : tie.Need-loop-again Inv-loop μ-loop
 unfolding word-bytes chunk-bytes chunk SHA-256
 loop-again c =
@@ -75,11 +62,9 @@ loop-again c =
           ∙ sym (absorbed-more SHA-256 (a .h) (now (a .s)) (l .i)),
     )
 
--- src/chunk.rt:71:1
 same-length : tie.Need-same-length Inv-loop μ-loop
 same-length c = search needs
 
--- src/chunk.rt:71:1
 returns : tie.Need-returns Inv-loop μ-loop
 returns c =
     let a = c .before .before .before .before .args in

@@ -1,17 +1,14 @@
-use denote.Ref.{now}
-use lib.ListN.{length-set}
-use Rattle.hash.proofs.Stored.{words-stored}
+-- `hash::chunk::fill` meets its contract. Assumes nothing.
 use mathlib.Core.Path.{_≡_}
 use Prim.Native.Nat.{_≤_, _-_}
 use native.Mathlib.Omega.{arith}
+use denote.Ref.{now}
 use borrow.Author.Needs.{needs}
-use lib.ListN.{length, take}
+use lib.ListN.{length-set, length, take}
+use Rattle.hash.proofs.Stored.{words-stored}
 use Rattle.hash.specs.Padding.{words}
 use Rattle.hash.proofs.chunk.fill.Statement.{statement}
 use Rattle.hash.proofs.chunk.fill.Tie as tie
-use Rattle.hash.proofs.chunk.fill.Reads as reads
-use Rattle.hash.proofs.chunk.fill.Lts as lts
-use Rattle.octets.proofs.word_at.Reads as word-at-reads
 
 abbrev Inv-loop : tie.InvT-loop
 Inv-loop w₀ chunk t₀ w t = (t ≤ 16) × (length w ≡ 64) × (take t w ≡ words 4 chunk t)
@@ -19,46 +16,36 @@ Inv-loop w₀ chunk t₀ w t = (t ≤ 16) × (length w ≡ 64) × (take t w ≡ 
 abbrev μ-loop : tie.MeasureT-loop
 μ-loop w₀ chunk t₀ w t = 16 - t
 
--- src/chunk.rt:23:5
 loop-holds : tie.Need-loop-holds Inv-loop μ-loop
 unfolding words
 loop-holds c = search needs
 
--- src/chunk.rt:24:31
 mul-word-at : tie.Need-mul-word-at Inv-loop μ-loop
 mul-word-at c = search needs
 
--- src/chunk.rt:24:16
 word-at-requires : tie.Need-word-at-requires Inv-loop μ-loop
 word-at-requires c κs = search needs
 
--- src/chunk.rt:24:9
 mul-w : tie.Need-mul-w Inv-loop μ-loop
 mul-w c = search needs
 
--- src/chunk.rt:24:9
 slice-write-w : tie.Need-slice-write-w Inv-loop μ-loop
 slice-write-w c = search needs
 
--- src/chunk.rt:25:9
 add-t : tie.Need-add-t Inv-loop μ-loop
 add-t c = search needs
 
--- src/chunk.rt:23:5
 loop-less : tie.Need-loop-less Inv-loop μ-loop
 loop-less c = search needs
 
--- src/chunk.rt:23:5
 loop-again : tie.Need-loop-again Inv-loop μ-loop
 loop-again c =
     let l = c .before .before .loop in
     (omega arith, simp length-set (l .inv .1), words-stored 4 (now (c .before .before .before .before .before .args .chunk)) (l .w) (l .t) (c .word-at .result) (omega arith) (l .inv .2) (c .word-at .ensures))
 
--- src/chunk.rt:18:1
 same-length : tie.Need-same-length Inv-loop μ-loop
 same-length c = search needs
 
--- src/chunk.rt:18:1
 returns : tie.Need-returns Inv-loop μ-loop
 returns c =
     let l = c .before .loop in

@@ -1,78 +1,59 @@
+-- `hash::chunk::sums` meets its contract. Assumes nothing.
+use borrow.Author.Needs.{needs}
 use Rattle.hash.specs.Words.{plus}
 use Rattle.hash.specs.Rounds.{summed}
 use Rattle.hash.specs.Sha256.{SHA-256}
-use borrow.Author.Needs.{needs}
 use Rattle.hash.proofs.chunk.sums.Statement.{statement}
 use Rattle.hash.proofs.chunk.sums.Tie as tie
-use Rattle.hash.proofs.chunk.sums.Reads as reads
-use Rattle.hash.proofs.chunk.sums.Lts as lts
-use Rattle.std.proofs.num.wrapping_add_u32.Reads as wrapping-add-u32-reads
 
--- src/chunk.rt:48:31
 array-read-wrapping-add-u32 : tie.Need-array-read-wrapping-add-u32
 array-read-wrapping-add-u32 c = search needs
 
--- src/chunk.rt:48:9
 wrapping-add-u32-requires : tie.Need-wrapping-add-u32-requires
 wrapping-add-u32-requires c κs = search needs
 
--- src/chunk.rt:49:31
 array-read-wrapping-add-u32-2 : tie.Need-array-read-wrapping-add-u32-2
 array-read-wrapping-add-u32-2 c = search needs
 
--- src/chunk.rt:49:9
 wrapping-add-u32-requires-2 : tie.Need-wrapping-add-u32-requires-2
 wrapping-add-u32-requires-2 c κs = search needs
 
--- src/chunk.rt:50:31
 array-read-wrapping-add-u32-3 : tie.Need-array-read-wrapping-add-u32-3
 array-read-wrapping-add-u32-3 c = search needs
 
--- src/chunk.rt:50:9
 wrapping-add-u32-requires-3 : tie.Need-wrapping-add-u32-requires-3
 wrapping-add-u32-requires-3 c κs = search needs
 
--- src/chunk.rt:51:31
 array-read-wrapping-add-u32-4 : tie.Need-array-read-wrapping-add-u32-4
 array-read-wrapping-add-u32-4 c = search needs
 
--- src/chunk.rt:51:9
 wrapping-add-u32-requires-4 : tie.Need-wrapping-add-u32-requires-4
 wrapping-add-u32-requires-4 c κs = search needs
 
--- src/chunk.rt:52:31
 array-read-wrapping-add-u32-5 : tie.Need-array-read-wrapping-add-u32-5
 array-read-wrapping-add-u32-5 c = search needs
 
--- src/chunk.rt:52:9
 wrapping-add-u32-requires-5 : tie.Need-wrapping-add-u32-requires-5
 wrapping-add-u32-requires-5 c κs = search needs
 
--- src/chunk.rt:53:31
 array-read-wrapping-add-u32-6 : tie.Need-array-read-wrapping-add-u32-6
 array-read-wrapping-add-u32-6 c = search needs
 
--- src/chunk.rt:53:9
 wrapping-add-u32-requires-6 : tie.Need-wrapping-add-u32-requires-6
 wrapping-add-u32-requires-6 c κs = search needs
 
--- src/chunk.rt:54:31
 array-read-wrapping-add-u32-7 : tie.Need-array-read-wrapping-add-u32-7
 array-read-wrapping-add-u32-7 c = search needs
 
--- src/chunk.rt:54:9
 wrapping-add-u32-requires-7 : tie.Need-wrapping-add-u32-requires-7
 wrapping-add-u32-requires-7 c κs = search needs
 
--- src/chunk.rt:55:31
 array-read-wrapping-add-u32-8 : tie.Need-array-read-wrapping-add-u32-8
 array-read-wrapping-add-u32-8 c = search needs
 
--- src/chunk.rt:55:9
 wrapping-add-u32-requires-8 : tie.Need-wrapping-add-u32-requires-8
 wrapping-add-u32-requires-8 c κs = search needs
 
--- src/chunk.rt:44:1
 returns : tie.Need-returns
 unfolding plus summed SHA-256
 returns c = cc

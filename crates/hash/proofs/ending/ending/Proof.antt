@@ -1,63 +1,47 @@
+-- `hash::ending::ending` meets its contract. Assumes nothing.
 use mathlib.Core.Path.{_≡_, ap}
 use mathlib.Core.List.{List}
 use Prim.Native.Nat.{ℕ, _+_, _*_, _/_}
+use native.Mathlib.Omega.{arith}
 use denote.Ref.{now}
-use lib.ListN.{length}
+use borrow.Author.Needs.{needs}
+use lib.ListN.{length, length-set}
 use Rattle.hash.specs.Family.{word-bytes, length-bytes}
 use Rattle.hash.specs.Sha256.{SHA-256}
 use Rattle.hash.proofs.Padded.{ended, ended-stored}
-use native.Mathlib.Omega.{arith}
-use lib.ListN.{length-set}
-use borrow.Author.Needs.{needs}
 use Rattle.hash.proofs.ending.ending.Statement.{statement}
 use Rattle.hash.proofs.ending.ending.Tie as tie
-use Rattle.hash.proofs.ending.ending.Reads as reads
-use Rattle.hash.proofs.ending.ending.Lts as lts
-use Rattle.hash.proofs.ending.ending_chunks.Reads as ending-chunks-reads
-use Rattle.octets.proofs.copy_at.Reads as copy-at-reads
-use Rattle.octets.proofs.put_word.Reads as put-word-reads
 
--- src/ending.rt:27:13
 slice-aggregate-copy-at : tie.Need-slice-aggregate-copy-at
 slice-aggregate-copy-at c = search needs
 
--- src/ending.rt:27:5
 copy-at-requires : tie.Need-copy-at-requires
 copy-at-requires c κs = search needs
 
--- src/ending.rt:28:5
 array-write-block : tie.Need-array-write-block
 array-write-block c = search needs
 
--- src/ending.rt:29:14
 slice-aggregate-put-word : tie.Need-slice-aggregate-put-word
 slice-aggregate-put-word c = search needs
 
--- src/ending.rt:29:31
 ending-chunks-requires : tie.Need-ending-chunks-requires
 ending-chunks-requires c κs = search needs
 
--- src/ending.rt:29:26
 mul-put-word : tie.Need-mul-put-word
 mul-put-word c = search needs
 
--- src/ending.rt:29:26
 sub-put-word : tie.Need-sub-put-word
 sub-put-word c = search needs
 
--- src/ending.rt:29:63
 mul-put-word-2 : tie.Need-mul-put-word-2
 mul-put-word-2 c = search needs
 
--- src/ending.rt:29:62
 cast-put-word : tie.Need-cast-put-word
 cast-put-word c = search needs
 
--- src/ending.rt:29:5
 put-word-requires : tie.Need-put-word-requires
 put-word-requires c κs = simp length-set (omega (arith, c .before .before .before .copy-at .kept .0, c .ending-chunks .ensures))
 
--- src/ending.rt:22:1
 returns : tie.Need-returns
 unfolding ended word-bytes length-bytes SHA-256
 returns c =

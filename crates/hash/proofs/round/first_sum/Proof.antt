@@ -1,40 +1,29 @@
+-- `hash::round::first_sum` meets its contract. Assumes nothing.
+use borrow.Author.Needs.{needs}
 use Rattle.hash.specs.Words.{plus}
 use Rattle.hash.specs.Rounds.{T₁}
 use Rattle.hash.specs.Sha256.{SHA-256}
-use borrow.Author.Needs.{needs}
 use Rattle.hash.proofs.round.first_sum.Statement.{statement}
 use Rattle.hash.proofs.round.first_sum.Tie as tie
-use Rattle.hash.proofs.round.first_sum.Reads as reads
-use Rattle.hash.proofs.round.first_sum.Lts as lts
-use Rattle.hash.proofs.word.ch.Reads as ch-reads
-use Rattle.hash.proofs.word.upper_sigma_1.Reads as upper-sigma-1-reads
-use Rattle.std.proofs.num.wrapping_add_u32.Reads as wrapping-add-u32-reads
 
--- src/round.rt:32:37
 upper-sigma-1-requires : tie.Need-upper-sigma-1-requires
 upper-sigma-1-requires c κs = search needs
 
--- src/round.rt:32:9
 wrapping-add-u32-requires : tie.Need-wrapping-add-u32-requires
 wrapping-add-u32-requires c κs = search needs
 
--- src/round.rt:33:61
 ch-requires : tie.Need-ch-requires
 ch-requires c κs = search needs
 
--- src/round.rt:33:39
 wrapping-add-u32-requires-2 : tie.Need-wrapping-add-u32-requires-2
 wrapping-add-u32-requires-2 c κs = search needs
 
--- src/round.rt:33:22
 wrapping-add-u32-requires-3 : tie.Need-wrapping-add-u32-requires-3
 wrapping-add-u32-requires-3 c κs = search needs
 
--- src/round.rt:33:5
 wrapping-add-u32-requires-4 : tie.Need-wrapping-add-u32-requires-4
 wrapping-add-u32-requires-4 c κs = search needs
 
--- src/round.rt:29:1
 returns : tie.Need-returns
 unfolding plus T₁ SHA-256
 returns c = cc

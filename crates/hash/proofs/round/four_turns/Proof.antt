@@ -1,46 +1,35 @@
+-- `hash::round::four_turns` meets its contract. Assumes nothing.
 use mathlib.Core.Path.{refl}
+use borrow.Author.Needs.{needs}
 use Rattle.hash.specs.Sha256.{SHA-256}
 use Rattle.hash.proofs.Turns.{turns-then}
-use borrow.Author.Needs.{needs}
 use Rattle.hash.proofs.round.four_turns.Statement.{statement}
 use Rattle.hash.proofs.round.four_turns.Tie as tie
-use Rattle.hash.proofs.round.four_turns.Reads as reads
-use Rattle.hash.proofs.round.four_turns.Lts as lts
-use Rattle.hash.proofs.round.one_turn.Reads as one-turn-reads
 
--- src/round.rt:100:9
 one-turn-requires : tie.Need-one-turn-requires
 one-turn-requires c κs = search needs
 
--- src/round.rt:101:35
 add-one-turn : tie.Need-add-one-turn
 add-one-turn c = search needs
 
--- src/round.rt:101:9
 one-turn-requires-2 : tie.Need-one-turn-requires-2
 one-turn-requires-2 c κs = search needs
 
--- src/round.rt:102:37
 add-one-turn-2 : tie.Need-add-one-turn-2
 add-one-turn-2 c = search needs
 
--- src/round.rt:102:9
 one-turn-requires-3 : tie.Need-one-turn-requires-3
 one-turn-requires-3 c κs = search needs
 
--- src/round.rt:103:27
 add-one-turn-3 : tie.Need-add-one-turn-3
 add-one-turn-3 c = search needs
 
--- src/round.rt:103:5
 one-turn-requires-4 : tie.Need-one-turn-requires-4
 one-turn-requires-4 c κs = search needs
 
--- src/round.rt:96:1
 same-length : tie.Need-same-length
 same-length c = search needs
 
--- src/round.rt:96:1
 returns : tie.Need-returns
 returns c =
     let two = turns-then SHA-256 _ _ _ _ 1 1 _ 2 refl refl (c .before .before .before .before .before .before .before .before .before .before .before .before .before .before .one-turn .ensures) (c .before .before .before .before .before .before .before .before .before .before .one-turn2 .ensures) in

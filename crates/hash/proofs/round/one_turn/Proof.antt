@@ -1,47 +1,36 @@
+-- `hash::round::one_turn` meets its contract. Assumes nothing.
 use mathlib.Core.Path.{ap}
 use native.Mathlib.Omega.{arith}
 use native.Mathlib.Nat.{add-zero}
+use borrow.Author.Needs.{needs}
 use lib.ListN.{length}
 use Rattle.hash.specs.Sha256.{SHA-256}
 use Rattle.hash.specs.Turns.{turn, turns}
 use Rattle.hash.proofs.Table.{constants-length}
-use borrow.Author.Needs.{needs}
 use Rattle.hash.proofs.round.one_turn.Statement.{statement}
 use Rattle.hash.proofs.round.one_turn.Tie as tie
-use Rattle.hash.proofs.round.one_turn.Reads as reads
-use Rattle.hash.proofs.round.one_turn.Lts as lts
-use Rattle.hash.proofs.round.one_round.Reads as one-round-reads
-use Rattle.hash.proofs.round.word_from.Reads as word-from-reads
 
--- src/round.rt:88:9
 word-from-requires : tie.Need-word-from-requires
 word-from-requires c κs = search needs
 
--- src/round.rt:89:5
 mul-w : tie.Need-mul-w
 mul-w c = search needs
 
--- src/round.rt:89:5
 slice-write-w : tie.Need-slice-write-w
 slice-write-w c = search needs
 
--- src/round.rt:90:18
 mul-one-round : tie.Need-mul-one-round
 mul-one-round c = search needs
 
--- src/round.rt:90:18
 shared-slice-read-one-round : tie.Need-shared-slice-read-one-round
 shared-slice-read-one-round c = omega (arith, ap length (c .before .before .before .before .before .pre .3), constants-length)
 
--- src/round.rt:90:5
 one-round-requires : tie.Need-one-round-requires
 one-round-requires c κs = search needs
 
--- src/round.rt:84:1
 same-length : tie.Need-same-length
 same-length c = search needs
 
--- src/round.rt:84:1
 returns : tie.Need-returns
 unfolding turn turns SHA-256
 returns c = rw (add-zero (c .before .before .before .before .before .before .args .t)) (cc)

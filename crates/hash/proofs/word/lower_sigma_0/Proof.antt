@@ -1,21 +1,16 @@
+-- `hash::word::lower_sigma_0` meets its contract. Assumes nothing.
+use borrow.Author.Needs.{needs}
 use Rattle.hash.specs.Words.{shr}
 use Rattle.hash.specs.Functions.{lower-sigma}
-use borrow.Author.Needs.{needs}
 use Rattle.hash.proofs.word.lower_sigma_0.Statement.{statement}
 use Rattle.hash.proofs.word.lower_sigma_0.Tie as tie
-use Rattle.hash.proofs.word.lower_sigma_0.Reads as reads
-use Rattle.hash.proofs.word.lower_sigma_0.Lts as lts
-use Rattle.hash.proofs.word.rotate.Reads as rotate-reads
 
--- src/word.rt:42:5
 rotate-requires : tie.Need-rotate-requires
 rotate-requires c κs = search needs
 
--- src/word.rt:42:20
 rotate-requires-2 : tie.Need-rotate-requires-2
 rotate-requires-2 c κs = search needs
 
--- src/word.rt:39:1
 returns : tie.Need-returns
 unfolding shr lower-sigma
 returns c = cc

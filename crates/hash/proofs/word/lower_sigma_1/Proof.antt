@@ -1,21 +1,16 @@
+-- `hash::word::lower_sigma_1` meets its contract. Assumes nothing.
+use borrow.Author.Needs.{needs}
 use Rattle.hash.specs.Words.{shr}
 use Rattle.hash.specs.Functions.{lower-sigma}
-use borrow.Author.Needs.{needs}
 use Rattle.hash.proofs.word.lower_sigma_1.Statement.{statement}
 use Rattle.hash.proofs.word.lower_sigma_1.Tie as tie
-use Rattle.hash.proofs.word.lower_sigma_1.Reads as reads
-use Rattle.hash.proofs.word.lower_sigma_1.Lts as lts
-use Rattle.hash.proofs.word.rotate.Reads as rotate-reads
 
--- src/word.rt:48:5
 rotate-requires : tie.Need-rotate-requires
 rotate-requires c κs = search needs
 
--- src/word.rt:48:21
 rotate-requires-2 : tie.Need-rotate-requires-2
 rotate-requires-2 c κs = search needs
 
--- src/word.rt:45:1
 returns : tie.Need-returns
 unfolding shr lower-sigma
 returns c = cc

@@ -1,24 +1,18 @@
-use Rattle.hash.specs.Functions.{upper-sigma}
+-- `hash::word::upper_sigma_0` meets its contract. Assumes nothing.
 use borrow.Author.Needs.{needs}
+use Rattle.hash.specs.Functions.{upper-sigma}
 use Rattle.hash.proofs.word.upper_sigma_0.Statement.{statement}
 use Rattle.hash.proofs.word.upper_sigma_0.Tie as tie
-use Rattle.hash.proofs.word.upper_sigma_0.Reads as reads
-use Rattle.hash.proofs.word.upper_sigma_0.Lts as lts
-use Rattle.hash.proofs.word.rotate.Reads as rotate-reads
 
--- src/word.rt:30:5
 rotate-requires : tie.Need-rotate-requires
 rotate-requires c κs = search needs
 
--- src/word.rt:30:20
 rotate-requires-2 : tie.Need-rotate-requires-2
 rotate-requires-2 c κs = search needs
 
--- src/word.rt:30:36
 rotate-requires-3 : tie.Need-rotate-requires-3
 rotate-requires-3 c κs = search needs
 
--- src/word.rt:27:1
 returns : tie.Need-returns
 unfolding upper-sigma
 returns c = cc

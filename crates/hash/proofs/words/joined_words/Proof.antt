@@ -1,16 +1,14 @@
-use lib.Seq.{take-all}
-use Rattle.hash.proofs.Stored.{joined-stored}
+-- `hash::words::joined_words` meets its contract. Assumes nothing.
 use mathlib.Core.Path.{_≡_, sym, ap, _∙_}
 use Prim.Native.Nat.{_+_, _≤_, _*_, _-_}
 use native.Mathlib.Omega.{arith}
 use borrow.Author.Needs.{needs}
+use lib.Seq.{take-all}
 use lib.ListN.{length, take}
+use Rattle.hash.proofs.Stored.{joined-stored}
 use Rattle.hash.specs.Digest.{joined}
 use Rattle.hash.proofs.words.joined_words.Statement.{statement}
 use Rattle.hash.proofs.words.joined_words.Tie as tie
-use Rattle.hash.proofs.words.joined_words.Reads as reads
-use Rattle.hash.proofs.words.joined_words.Lts as lts
-use Rattle.octets.proofs.put_word.Reads as put-word-reads
 
 abbrev Inv-loop : tie.InvT-loop
 Inv-loop h out₀ i₀ out i = (i ≤ 8) × (length out ≡ 32) × (take (4 * i) out ≡ joined 4 h i)
@@ -18,40 +16,31 @@ Inv-loop h out₀ i₀ out i = (i ≤ 8) × (length out ≡ 32) × (take (4 * i)
 abbrev μ-loop : tie.MeasureT-loop
 μ-loop h out₀ i₀ out i = 8 - i
 
--- src/words.rt:11:5
 loop-holds : tie.Need-loop-holds Inv-loop μ-loop
 unfolding joined
 loop-holds c = search needs
 
--- src/words.rt:12:18
 slice-aggregate-put-word : tie.Need-slice-aggregate-put-word Inv-loop μ-loop
 slice-aggregate-put-word c = search needs
 
--- src/words.rt:12:28
 mul-put-word : tie.Need-mul-put-word Inv-loop μ-loop
 mul-put-word c = search needs
 
--- src/words.rt:12:35
 mul-put-word-2 : tie.Need-mul-put-word-2 Inv-loop μ-loop
 mul-put-word-2 c = search needs
 
--- src/words.rt:12:35
 array-read-put-word : tie.Need-array-read-put-word Inv-loop μ-loop
 array-read-put-word c = search needs
 
--- src/words.rt:12:9
 put-word-requires : tie.Need-put-word-requires Inv-loop μ-loop
 put-word-requires c κs = search needs
 
--- src/words.rt:13:9
 add-i : tie.Need-add-i Inv-loop μ-loop
 add-i c = search needs
 
--- src/words.rt:11:5
 loop-less : tie.Need-loop-less Inv-loop μ-loop
 loop-less c = search needs
 
--- src/words.rt:11:5
 loop-again : tie.Need-loop-again Inv-loop μ-loop
 loop-again c =
     let l = c .before .before .before .before .loop in
@@ -61,7 +50,6 @@ loop-again c =
       ap (take (4 * (l .i + 1))) (p .ensures) ∙ joined-stored (c .before .before .before .before .before .args .t1) (l .out) (l .i) (omega arith) (l .inv .2),
     )
 
--- src/words.rt:6:1
 returns : tie.Need-returns Inv-loop μ-loop
 returns c =
     let l = c .before .loop in

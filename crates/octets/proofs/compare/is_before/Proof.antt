@@ -1,19 +1,17 @@
-use borrow.Author.Tests.{eq-eqb, ne-eqb, lt-ltb, le-ltb}
-use denote.Ref.{now}
-use native.Mathlib.Omega.{arith}
-use mathlib.Core.Bool.{Bool, cond, _&&_}
-use lib.Dec.{ltb}
-use Rattle.octets.proofs.Compared.{before-step, before-over, before-at-end}
-use lib.ListN.{getD}
+-- `octets::compare::is_before` meets its contract. Assumes nothing.
+use mathlib.Core.Bool.{Bool, cond}
 use mathlib.Core.Path.{_≡_, sym, ap, _∙_}
 use Prim.Native.Nat.{_+_, _≤_, _-_}
+use native.Mathlib.Omega.{arith}
+use denote.Ref.{now}
+use borrow.Author.Tests.{eq-eqb, ne-eqb}
 use borrow.Author.Needs.{needs}
-use lib.ListN.{length, drop}
+use lib.Dec.{ltb}
+use lib.ListN.{getD, length, drop}
+use Rattle.octets.proofs.Compared.{before-step, before-over, before-at-end}
 use Rattle.octets.specs.Strings.{before}
 use Rattle.octets.proofs.compare.is_before.Statement.{statement}
 use Rattle.octets.proofs.compare.is_before.Tie as tie
-use Rattle.octets.proofs.compare.is_before.Reads as reads
-use Rattle.octets.proofs.compare.is_before.Lts as lts
 
 abbrev Inv-loop : tie.InvT-loop
 Inv-loop a b i₀ i = (i ≤ length a) × (i ≤ length b) × (before a b ≡ before (drop i a) (drop i b))
@@ -21,33 +19,26 @@ Inv-loop a b i₀ i = (i ≤ length a) × (i ≤ length b) × (before a b ≡ be
 abbrev μ-loop : tie.MeasureT-loop
 μ-loop a b i₀ i = length a - i
 
--- src/compare.rt:41:5
 loop-holds : tie.Need-loop-holds Inv-loop μ-loop
 loop-holds c = search needs
 
--- src/compare.rt:43:13
 returns : tie.Need-returns Inv-loop μ-loop
 returns c =
     let l = c .before .before .loop in
     sym (l .inv .2 ∙ before-over (now (c .before .before .before .args .a)) (now (c .before .before .before .args .b)) (l .i) (omega arith) (omega arith))
 
--- src/compare.rt:45:12
 shared-slice-read-if2 : tie.Need-shared-slice-read-if2 Inv-loop μ-loop
 shared-slice-read-if2 c = search needs
 
--- src/compare.rt:45:20
 shared-slice-read-if2-2 : tie.Need-shared-slice-read-if2-2 Inv-loop μ-loop
 shared-slice-read-if2-2 c = search needs
 
--- src/compare.rt:46:20
 shared-slice-read-result : tie.Need-shared-slice-read-result Inv-loop μ-loop
 shared-slice-read-result c = search needs
 
--- src/compare.rt:46:27
 shared-slice-read-result-2 : tie.Need-shared-slice-read-result-2 Inv-loop μ-loop
 shared-slice-read-result-2 c = search needs
 
--- src/compare.rt:46:13
 returns-2 : tie.Need-returns-2 Inv-loop μ-loop
 returns-2 c =
     let a = now (c .before .before .before .before .before .before .before .before .args .a) in
@@ -56,15 +47,12 @@ returns-2 c =
     let step = l .inv .2 ∙ before-step a b (l .i) (omega arith) (omega arith) in
     sym (step ∙ ap (λ (p : Bool). cond p (before (drop (l .i + 1) a) (drop (l .i + 1) b)) (ltb (getD a (l .i) 0) (getD b (l .i) 0))) (ne-eqb _ _ (c .before .before .if2 .taken)))
 
--- src/compare.rt:48:9
 add-i : tie.Need-add-i Inv-loop μ-loop
 add-i c = search needs
 
--- src/compare.rt:41:5
 loop-less : tie.Need-loop-less Inv-loop μ-loop
 loop-less c = search needs
 
--- src/compare.rt:41:5
 loop-again : tie.Need-loop-again Inv-loop μ-loop
 loop-again c =
     let a = now (c .before .before .before .before .before .before .args .a) in
@@ -73,7 +61,6 @@ loop-again c =
     let step = l .inv .2 ∙ before-step a b (l .i) (omega arith) (omega arith) in
     (omega arith, omega arith, step ∙ ap (λ (p : Bool). cond p (before (drop (l .i + 1) a) (drop (l .i + 1) b)) (ltb (getD a (l .i) 0) (getD b (l .i) 0))) (eq-eqb _ _ (c .if2 .left)))
 
--- src/compare.rt:37:1
 returns-3 : tie.Need-returns-3 Inv-loop μ-loop
 returns-3 c =
     let l = c .before .loop in

@@ -1,17 +1,16 @@
-use borrow.Author.Tests.{eq-eqb, ne-eqb}
-use denote.Ref.{now}
-use native.Mathlib.Omega.{arith}
-use mathlib.Core.Bool.{Bool, cond, _&&_}
-use Rattle.octets.proofs.Compared.{zero-step, zero-end}
+-- `octets::compare::is_zero` meets its contract. Assumes nothing.
+use mathlib.Core.Bool.{Bool, _&&_}
 use mathlib.Core.Path.{_≡_, sym, ap, _∙_}
 use Prim.Native.Nat.{_+_, _≤_, _-_}
+use native.Mathlib.Omega.{arith}
+use denote.Ref.{now}
+use borrow.Author.Tests.{eq-eqb, ne-eqb}
 use borrow.Author.Needs.{needs}
 use lib.ListN.{length, drop}
+use Rattle.octets.proofs.Compared.{zero-step, zero-end}
 use Rattle.octets.specs.Strings.{all-zero}
 use Rattle.octets.proofs.compare.is_zero.Statement.{statement}
 use Rattle.octets.proofs.compare.is_zero.Tie as tie
-use Rattle.octets.proofs.compare.is_zero.Reads as reads
-use Rattle.octets.proofs.compare.is_zero.Lts as lts
 
 abbrev Inv-loop : tie.InvT-loop
 Inv-loop s i₀ i = (i ≤ length s) × (all-zero s ≡ all-zero (drop i s))
@@ -19,37 +18,30 @@ Inv-loop s i₀ i = (i ≤ length s) × (all-zero s ≡ all-zero (drop i s))
 abbrev μ-loop : tie.MeasureT-loop
 μ-loop s i₀ i = length s - i
 
--- src/compare.rt:10:5
 loop-holds : tie.Need-loop-holds Inv-loop μ-loop
 loop-holds c = search needs
 
--- src/compare.rt:11:12
 shared-slice-read-if1 : tie.Need-shared-slice-read-if1 Inv-loop μ-loop
 shared-slice-read-if1 c = search needs
 
--- src/compare.rt:12:13
 returns : tie.Need-returns Inv-loop μ-loop
 returns c =
     let s = now (c .before .before .before .before .args .s) in
     let l = c .before .before .before .loop in
     sym (l .inv .1 ∙ zero-step s (l .i) (omega arith) ∙ ap (λ (p : Bool). p && all-zero (drop (l .i + 1) s)) (ne-eqb _ _ (c .if1 .taken)))
 
--- src/compare.rt:14:9
 add-i : tie.Need-add-i Inv-loop μ-loop
 add-i c = search needs
 
--- src/compare.rt:10:5
 loop-less : tie.Need-loop-less Inv-loop μ-loop
 loop-less c = search needs
 
--- src/compare.rt:10:5
 loop-again : tie.Need-loop-again Inv-loop μ-loop
 loop-again c =
     let s = now (c .before .before .before .before .args .s) in
     let l = c .before .before .before .loop in
     (omega arith, l .inv .1 ∙ zero-step s (l .i) (omega arith) ∙ ap (λ (p : Bool). p && all-zero (drop (l .i + 1) s)) (eq-eqb _ _ (c .if1 .left)))
 
--- src/compare.rt:6:1
 returns-2 : tie.Need-returns-2 Inv-loop μ-loop
 returns-2 c =
     let l = c .before .loop in

@@ -1,16 +1,15 @@
-use Rattle.octets.proofs.Puts.{put-paste}
+-- `octets::copy::copy_at` meets its contract. Assumes nothing.
 use mathlib.Core.Path.{_≡_, sym, ap, _∙_}
 use mathlib.Core.List.{List}
 use Prim.Native.Nat.{ℕ, _+_, _≤_, _-_}
 use native.Mathlib.Numerals.{add-one}
-use denote.Ref.{now}
 use native.Mathlib.Omega.{arith}
+use denote.Ref.{now}
 use lib.ListN.{length, getD, set}
 use lib.Seq.{paste, paste-zero, paste-suc, length-paste}
+use Rattle.octets.proofs.Puts.{put-paste}
 use Rattle.octets.proofs.copy.copy_at.Statement.{statement}
 use Rattle.octets.proofs.copy.copy_at.Tie as tie
-use Rattle.octets.proofs.copy.copy_at.Reads as reads
-use Rattle.octets.proofs.copy.copy_at.Lts as lts
 
 abbrev Inv-loop : tie.InvT-loop
 Inv-loop dst₀ at src i₀ dst i = (i ≤ length src) × (dst ≡ paste dst₀ at src i)
@@ -18,34 +17,27 @@ Inv-loop dst₀ at src i₀ dst i = (i ≤ length src) × (dst ≡ paste dst₀ 
 abbrev μ-loop : tie.MeasureT-loop
 μ-loop dst₀ at src i₀ dst i = length src - i
 
--- src/copy.rt:13:5
 loop-holds : tie.Need-loop-holds Inv-loop μ-loop
 loop-holds c = (omega arith, paste-zero (now (c .args .dst)) (c .args .at) (now (c .args .src)))
 
--- src/copy.rt:14:23
 shared-slice-read-dst : tie.Need-shared-slice-read-dst Inv-loop μ-loop
 shared-slice-read-dst c = omega arith
 
--- src/copy.rt:14:13
 add-dst : tie.Need-add-dst Inv-loop μ-loop
 add-dst c = omega arith
 
--- src/copy.rt:14:9
 slice-write-dst : tie.Need-slice-write-dst Inv-loop μ-loop
 slice-write-dst c =
     let a = c .before .before .before .args in
     let l = c .before .before .loop in
     omega (arith, ap length (l .inv .1), length-paste (now (a .dst)) (a .at) (now (a .src)) (l .i) (omega arith) (omega arith))
 
--- src/copy.rt:15:9
 add-i : tie.Need-add-i Inv-loop μ-loop
 add-i c = omega arith
 
--- src/copy.rt:13:5
 loop-less : tie.Need-loop-less Inv-loop μ-loop
 loop-less c = omega arith
 
--- src/copy.rt:13:5
 loop-again : tie.Need-loop-again Inv-loop μ-loop
 loop-again c =
     let a = c .before .before .before .args in
@@ -56,14 +48,12 @@ loop-again c =
           ∙ ap (paste (now (a .dst)) (a .at) (now (a .src))) (sym (add-one (l .i))),
     )
 
--- src/copy.rt:8:1
 same-length : tie.Need-same-length Inv-loop μ-loop
 same-length c =
     let a = c .before .before .args in
     let l = c .before .loop in
     ap length (l .inv .1) ∙ length-paste (now (a .dst)) (a .at) (now (a .src)) (l .i) (omega arith) (omega arith)
 
--- src/copy.rt:8:1
 returns : tie.Need-returns Inv-loop μ-loop
 returns c =
     let a = c .before .before .args in

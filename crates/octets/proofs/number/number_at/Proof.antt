@@ -1,48 +1,38 @@
+-- `octets::number::number_at` meets its contract. Assumes nothing.
 use mathlib.Core.Path.{_≡_, sym, ap, ap₂, _∙_}
 use mathlib.Core.List.{List, _++_}
 use Prim.Native.Nat.{ℕ, _+_, _*_, _^_}
-use denote.Ref.{now}
 use native.Mathlib.Omega.{arith}
+use denote.Ref.{now}
+use borrow.Author.Needs.{needs}
 use lib.ListN.{length, take, drop, length-take, length-drop}
 use lib.Seq.{take-add, drop-drop}
 use Rattle.octets.specs.Numbers.{number-of}
 use Rattle.octets.proofs.Numbers.{number-append}
-use borrow.Author.Needs.{needs}
 use Rattle.octets.proofs.number.number_at.Statement.{statement}
 use Rattle.octets.proofs.number.number_at.Tie as tie
-use Rattle.octets.proofs.number.number_at.Reads as reads
-use Rattle.octets.proofs.number.number_at.Lts as lts
-use Rattle.octets.proofs.number.word_at.Reads as word-at-reads
 
--- src/number.rt:39:9
 word-at-requires : tie.Need-word-at-requires
 word-at-requires c κs = search needs
 
--- src/number.rt:40:26
 add-word-at : tie.Need-add-word-at
 add-word-at c = search needs
 
--- src/number.rt:40:9
 word-at-requires-2 : tie.Need-word-at-requires-2
 word-at-requires-2 c κs = search needs
 
--- src/number.rt:41:5
 cast-result : tie.Need-cast-result
 cast-result c = search needs
 
--- src/number.rt:41:5
 mul-result : tie.Need-mul-result
 mul-result c = search needs
 
--- src/number.rt:41:32
 cast-result-2 : tie.Need-cast-result-2
 cast-result-2 c = search needs
 
--- src/number.rt:41:5
 add-result : tie.Need-add-result
 add-result c = search needs
 
--- src/number.rt:35:1
 returns : tie.Need-returns
 returns c =
     let a = c .before .before .before .args in

@@ -1,44 +1,35 @@
-use mathlib.Core.Path.{_≡_, sym, ap, _∙_}
+-- `octets::number::put_number` meets its contract. Assumes nothing.
+use mathlib.Core.Path.{sym, ap, _∙_}
 use mathlib.Core.List.{List, _++_}
 use Prim.Native.Nat.{ℕ, _+_, _/_, _%_}
-use denote.Ref.{now}
 use native.Mathlib.Omega.{arith}
+use denote.Ref.{now}
+use borrow.Author.Needs.{needs}
 use Rattle.octets.specs.Numbers.{bytes-of}
 use Rattle.octets.specs.Strings.{put}
 use Rattle.octets.proofs.Numbers.{bytes-length, bytes-low, bytes-append}
 use Rattle.octets.proofs.Puts.{put-put}
-use borrow.Author.Needs.{needs}
 use Rattle.octets.proofs.number.put_number.Statement.{statement}
 use Rattle.octets.proofs.number.put_number.Tie as tie
-use Rattle.octets.proofs.number.put_number.Reads as reads
-use Rattle.octets.proofs.number.put_number.Lts as lts
-use Rattle.octets.proofs.number.put_word.Reads as put-word-reads
 
--- src/number.rt:49:21
 cast-put-word : tie.Need-cast-put-word
 cast-put-word c = search needs
 
--- src/number.rt:49:5
 put-word-requires : tie.Need-put-word-requires
 put-word-requires c κs = search needs
 
--- src/number.rt:50:17
 add-put-word : tie.Need-add-put-word
 add-put-word c = search needs
 
--- src/number.rt:50:25
 cast-put-word-2 : tie.Need-cast-put-word-2
 cast-put-word-2 c = search needs
 
--- src/number.rt:50:5
 put-word-requires-2 : tie.Need-put-word-requires-2
 put-word-requires-2 c κs = search needs
 
--- src/number.rt:45:1
 same-length : tie.Need-same-length
 same-length c = search needs
 
--- src/number.rt:45:1
 returns : tie.Need-returns
 returns c =
     let a = c .before .before .before .before .before .before .before .before .before .args in

@@ -1,48 +1,37 @@
+-- `octets::number::word_at` meets its contract. Assumes nothing.
 use mathlib.Core.Path.{sym, ap, _∙_}
 use native.Mathlib.Omega.{arith}
 use denote.Ref.{now}
+use borrow.Author.Needs.{needs}
 use Rattle.octets.specs.Numbers.{number-of}
 use Rattle.octets.proofs.Parts.{four-read}
-use borrow.Author.Needs.{needs}
 use Rattle.octets.proofs.number.word_at.Statement.{statement}
 use Rattle.octets.proofs.number.word_at.Tie as tie
-use Rattle.octets.proofs.number.word_at.Reads as reads
-use Rattle.octets.proofs.number.word_at.Lts as lts
-use Rattle.octets.proofs.number.four_bytes.Reads as four-bytes-reads
 
--- src/number.rt:20:16
 shared-slice-read-four-bytes : tie.Need-shared-slice-read-four-bytes
 shared-slice-read-four-bytes c = search needs
 
--- src/number.rt:20:25
 add-four-bytes : tie.Need-add-four-bytes
 add-four-bytes c = search needs
 
--- src/number.rt:20:23
 shared-slice-read-four-bytes-2 : tie.Need-shared-slice-read-four-bytes-2
 shared-slice-read-four-bytes-2 c = search needs
 
--- src/number.rt:20:36
 add-four-bytes-2 : tie.Need-add-four-bytes-2
 add-four-bytes-2 c = search needs
 
--- src/number.rt:20:34
 shared-slice-read-four-bytes-3 : tie.Need-shared-slice-read-four-bytes-3
 shared-slice-read-four-bytes-3 c = search needs
 
--- src/number.rt:20:47
 add-four-bytes-3 : tie.Need-add-four-bytes-3
 add-four-bytes-3 c = search needs
 
--- src/number.rt:20:45
 shared-slice-read-four-bytes-4 : tie.Need-shared-slice-read-four-bytes-4
 shared-slice-read-four-bytes-4 c = search needs
 
--- src/number.rt:20:5
 four-bytes-requires : tie.Need-four-bytes-requires
 four-bytes-requires c κs = search needs
 
--- src/number.rt:16:1
 returns : tie.Need-returns
 returns c =
     let a = c .before .before .before .before .before .before .args in
