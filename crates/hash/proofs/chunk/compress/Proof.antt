@@ -43,15 +43,19 @@ same-length c = search needs
 returns : tie.Need-returns
 unfolding SHA-256 begun
 returns c =
-    let a = c .before .before .before .before .before .before .before .before .before .before .before .before .before .before .before .before .args in
-    let f = c .before .before .before .before .before .before .before .before .before .before .before .before .fill in
+    let first = c .before .before .before .before .before .before in
+    let filled = first .before .before .before .before .before .before in
+    let entry = filled .before .before .before .before in
+    let a = entry .args in
     let M : List ℕ = words 4 (now (a .chunk)) 16 in
-    let W : List ℕ = f .last .0 in
+    let W : List ℕ = filled .fill .last .0 in
     let s : Eight = initial (a .h) in
-    let begins : stage W (c .before .before .before .before .before .before .first-rounds .result) ≡ begun SHA-256 W s =
-    ap (λ (e : Eight). record { area = W; state = e }) (c .before .before .before .before .before .before .first-rounds .ensures ∙ ap (λ (e : Eight). rounds SHA-256 W e 16) (c .before .before .before .before .before .before .before .before .before .working .ensures)) in
+    let begins : stage W (first .first-rounds .result) ≡ begun SHA-256 W s =
+    ap (λ (e : Eight). record { area = W; state = e })
+    (first .first-rounds .ensures ∙ ap (λ (e : Eight). rounds SHA-256 W e 16) (first .before .before .before .working .ensures)) in
     c .sums .ensures
-    ∙ compressed-by SHA-256 M W s (words-length 4 (now (a .chunk)) 16) (f .ensures) (a .h) _ refl (omega (arith, f .kept .0, c .before .before .before .before .before .before .before .before .before .before .before .before .before .before .before .before .pre .0))
+    ∙ compressed-by SHA-256 M W s (words-length 4 (now (a .chunk)) 16) (filled .fill .ensures) (a .h) _ refl
+    (omega (arith, filled .fill .kept .0, entry .pre .0))
     (c .before .before .before .further-rounds .ensures ∙ ap (λ (x : Stage). turns SHA-256 x 16 48) begins)
 
 pub compress-spec : {M : Type 1} → statement M

@@ -32,8 +32,11 @@ same-length c = search needs
 
 returns : tie.Need-returns
 returns c =
-    let two = turns-then SHA-256 _ _ _ _ 1 1 _ 2 refl refl (c .before .before .before .before .before .before .before .before .before .before .before .before .before .before .one-turn .ensures) (c .before .before .before .before .before .before .before .before .before .before .one-turn2 .ensures) in
-    let three = turns-then SHA-256 _ _ _ _ 2 1 _ 3 refl refl two (c .before .before .before .before .before .before .one-turn3 .ensures) in
+    let third = c .before .before .before .before .before .before in
+    let second = third .before .before .before .before in
+    let first = second .before .before .before .before in
+    let two = turns-then SHA-256 _ _ _ _ 1 1 _ 2 refl refl (first .one-turn .ensures) (second .one-turn2 .ensures) in
+    let three = turns-then SHA-256 _ _ _ _ 2 1 _ 3 refl refl two (third .one-turn3 .ensures) in
     turns-then SHA-256 _ _ _ _ 3 1 _ 4 refl refl three (c .before .before .one-turn4 .ensures)
 
 pub four-turns-spec : {M : Type 1} → statement M
