@@ -1,8 +1,10 @@
 // Strings of bytes: the one way to copy them, to compare them, and to read and write numbers in them.
+mod cleared;
 mod compare;
 mod copy;
 mod number;
 
+pub use cleared::clear;
 pub use compare::is_before;
 pub use compare::is_same;
 pub use compare::is_zero;

@@ -1,0 +1,13 @@
+-- `keeper::record::is_counted` meets its contract. Assumes nothing.
+use borrow.Author.Tests.{eq-eqb, ne-eqb}
+use Rattle.keeper.proofs.record.is_counted.Statement.{statement}
+use Rattle.keeper.proofs.record.is_counted.Tie as tie
+
+returns : tie.Need-returns
+returns c = rw (eq-eqb _ _ (c .if1 .taken))
+
+returns-2 : tie.Need-returns-2
+returns-2 c = rw (ne-eqb _ _ (c .if1 .left))
+
+pub is-counted-spec : {M : Type 1} → statement M
+is-counted-spec = tie.close (tie.spec returns returns-2)

@@ -1,0 +1,3 @@
+-- A roll as it travels, in blocks of 512 bytes.
+pub mod Blocks
+pub mod Roll

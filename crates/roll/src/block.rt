@@ -1,0 +1,54 @@
+// The blocks of a roll: how many, and one block made.
+use rows::DIGEST;
+use rows::ROW;
+ghost use mathlib.Core.Path.{_≡_};
+ghost use Prim.Native.Nat.{_≤_, _<_};
+ghost use lib.ListN.{length};
+ghost use Rattle.rows.specs.Sizes.{most-rows, table-bytes};
+ghost use Rattle.roll.specs.Blocks.{blocks, block};
+
+// The row places of a block, its head, its places and its check, and the whole of it.
+pub const PLACES: usize = 9;
+
+pub const HEAD: usize = 4;
+
+pub const PLACES_BYTES: usize = PLACES * ROW;
+
+pub const CHECKED: usize = HEAD + PLACES_BYTES;
+
+pub const CHECK: usize = 4;
+
+pub const BLOCK: usize = CHECKED + CHECK;
+
+// Where a block says the row count of the whole roll, and the byte behind it.
+pub const COUNT_PLACE: usize = 2;
+
+const LAYOUT: u8 = 0;
+
+// The number of blocks of a roll.
+pub fn blocks(count: u8) -> usize
+    ensures { λ r. ⌜ r ≡ blocks count ⌝ }
+{
+    if count == 0 {
+        return 1;
+    }
+    (count as usize + (PLACES - 1)) / PLACES
+}
+
+// Block b of a roll.
+pub fn made_block(count: u8, rows: &[u8], b: usize) -> [u8; BLOCK]
+    requires { ⌜ (count ≤ most-rows) × (length (now rows) ≡ table-bytes) × (b < blocks count) ⌝ }
+    ensures { λ r. ⌜ r ≡ block count (now (rows .entry)) b ⌝ }
+{
+    let from = PLACES_BYTES * b;
+    let mut block = [0u8; BLOCK];
+    block[0] = b as u8;
+    block[1] = blocks(count) as u8;
+    block[COUNT_PLACE] = count;
+    block[3] = LAYOUT;
+    octets::copy_at(&mut block, HEAD, &rows[from..from + PLACES_BYTES]);
+    let mut digest = [0u8; DIGEST];
+    hash::sha256(&block[..CHECKED], &mut digest);
+    octets::copy_at(&mut block, CHECKED, &digest[..CHECK]);
+    block
+}

@@ -1,0 +1,6 @@
+-- The laws that the proofs about rows cite, and those that a caller goes by.
+pub mod Rows
+pub mod Tables
+pub mod Searches
+pub mod Messages
+pub mod Outcomes

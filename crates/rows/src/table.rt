@@ -1,0 +1,82 @@
+// Whether a string is a table of rows.
+use crate::LABEL;
+use crate::MOST;
+use crate::ROW;
+use crate::TABLE;
+use crate::TAIL;
+use crate::row::row_holds;
+ghost use mathlib.Core.Path.{_≡_};
+ghost use Prim.Native.Nat.{_+_, _*_, _≤_};
+ghost use lib.ListN.{length};
+ghost use Rattle.rows.specs.Sizes.{row-bytes, most-rows};
+ghost use Rattle.rows.specs.Row.{row-fits};
+ghost use Rattle.rows.specs.Table.{each, rises, stands, rows-fit};
+
+// Whether row i keeps the rules of a row.
+fn row_fits(rows: &[u8], i: usize) -> bool
+    requires { ⌜ row-bytes * i + row-bytes ≤ length (now rows) ⌝ }
+    ensures { λ r. ⌜ r ≡ row-fits (now (rows .entry)) i ⌝ }
+{
+    let label = ROW * i;
+    let tail = label + LABEL;
+    let height = tail + TAIL;
+    row_holds(
+        &rows[label..tail],
+        &rows[tail..height],
+        octets::number_at(rows, height),
+    )
+}
+
+// Whether the label of row i comes after the one before it.
+fn rises(rows: &[u8], i: usize) -> bool
+    requires { ⌜ row-bytes * i + row-bytes ≤ length (now rows) ⌝ }
+    ensures { λ r. ⌜ r ≡ rises (now (rows .entry)) i ⌝ }
+{
+    if i == 0 {
+        return true;
+    }
+    let earlier = ROW * (i - 1);
+    let later = ROW * i;
+    octets::is_before(&rows[earlier..earlier + LABEL], &rows[later..later + LABEL])
+}
+
+fn stands(rows: &[u8], i: usize) -> bool
+    requires { ⌜ row-bytes * i + row-bytes ≤ length (now rows) ⌝ }
+    ensures { λ r. ⌜ r ≡ stands (now (rows .entry)) i ⌝ }
+{
+    if row_fits(rows, i) {
+        return rises(rows, i);
+    }
+    false
+}
+
+fn all_stand(rows: &[u8], count: usize) -> bool
+    requires { ⌜ row-bytes * count ≤ length (now rows) ⌝ }
+    ensures { λ r. ⌜ r ≡ each (stands (now (rows .entry))) count ⌝ }
+{
+    let mut i = 0;
+    while i < count {
+        if !stands(rows, i) {
+            return false;
+        }
+        i += 1;
+    }
+    true
+}
+
+// Whether a string is a table whose first rows, `count` of them, form a roll, with zeros after them.
+pub fn rows_fit(rows: &[u8], count: usize) -> bool
+    ensures { λ r. ⌜ r ≡ rows-fit count (now (rows .entry)) ⌝ }
+{
+    if rows.len() != TABLE {
+        return false;
+    }
+    if MOST < count {
+        return false;
+    }
+    if all_stand(rows, count) {
+        let rest = ROW * count;
+        return octets::is_zero(&rows[rest..]);
+    }
+    false
+}
