@@ -20,7 +20,8 @@ use Rattle.statement.specs.Cut.{no-digest, no-label, receipt-at, handove
 use Rattle.statement.specs.Shape.{Arrays, Numbers, Shaped}
 use Rattle.statement.proofs.Fields.{behind, zero-is}
 use Rattle.statement.proofs.Strings.{Stands, Of, kind-of}
-use Rattle.statement.proofs.Laid.{receipt-word, height-on, receipt-flat, receipt-first, receipt-length, receipt-cut, handover-word, handover-flat, handover-begins, handover-length, handover-first, handover-second, handover-cut, number-in, last-in}
+use Rattle.statement.proofs.Laid.{receipt-word, height-on, receipt-flat, receipt-first, receipt-length, receipt-cut, handover-word}
+use Rattle.statement.proofs.Laid.{handover-flat, handover-begins, handover-length, handover-first, handover-second, handover-cut, number-in, last-in}
 
 module _ (v : Statement) (a : Arrays v) where
   by-kind : (k : Kind) (w : List ℕ) → 0 < kind-number k → Of k w → cut-as k w ≡ v → cut-statement w ≡ v
@@ -74,7 +75,8 @@ module _ (v : Statement) (a : Arrays v) where
       let n : ℕ = kind-number (Read x y z) in
       let w : List ℕ = receipt-word v a n t in
       let l : length t ≡ number-bytes + (number-bytes + number-bytes) = simp length-append (omega (arith, bytes-length number-bytes x, bytes-length number-bytes y, bytes-length number-bytes z)) in
-      let e : drop nonce-place w ≡ bytes-of number-bytes y ++ bytes-of number-bytes z = behind w (bytes-of number-bytes x) (bytes-of number-bytes y ++ bytes-of number-bytes z) height-place number-bytes (height-on v a n t) (bytes-length number-bytes x) in
+      let e : drop nonce-place w ≡ bytes-of number-bytes y ++ bytes-of number-bytes z =
+      behind w (bytes-of number-bytes x) (bytes-of number-bytes y ++ bytes-of number-bytes z) height-place number-bytes (height-on v a n t) (bytes-length number-bytes x) in
       record {
         sized = receipt-length v a n t ∙ ap (λ (i : ℕ). height-place + i) l;
         named = receipt-first v a n t;
@@ -115,7 +117,10 @@ cut-written v h f = go (v .kind) refl (h .numbers) f
         let g : receipt-fits v x ≡ true = and-right (leb 1 x) (receipt-fits v x) f in
         receipt-back v a (Append x) x (bytes-of number-bytes x) e (lit< tt) refl (short-of v a (Append x) x refl m (λ w t. t)) g
     go (Read x y z) e m f =
-        rw (append-assoc (v .own ++ v .label ++ v .tail ++ bytes-of number-bytes x) (bytes-of number-bytes y) (bytes-of number-bytes z), append-assoc (v .own ++ v .label ++ v .tail) (bytes-of number-bytes x) (bytes-of number-bytes y ++ bytes-of number-bytes z))
+        rw (
+          append-assoc (v .own ++ v .label ++ v .tail ++ bytes-of number-bytes x) (bytes-of number-bytes y) (bytes-of number-bytes z),
+          append-assoc (v .own ++ v .label ++ v .tail) (bytes-of number-bytes x) (bytes-of number-bytes y ++ bytes-of number-bytes z),
+        )
         (receipt-back v a (Read x y z) x (bytes-of number-bytes x ++ (bytes-of number-bytes y ++ bytes-of number-bytes z)) e (lit< tt) refl (long-of v a x y z (m .0) (m .1) (m .2)) f)
     go Finalise e m f =
         handover-back v a Finalise first-place second-place (v .own) (v .other) (a .own) (a .other) e (lit< tt) refl tt refl

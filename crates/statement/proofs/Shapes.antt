@@ -10,7 +10,8 @@ use Rattle.octets.specs.Numbers.{number-of}
 use Rattle.octets.proofs.Exact.{Octets, octets-take, octets-drop, number-below}
 use Rattle.statement.specs.declared.Kind.{Kind}
 use Rattle.statement.specs.declared.Kind.the-variants.{Blank, New, Append, Read, Finalise, Initialise}
-use Rattle.statement.specs.Kinds.{kind-number, receipt-size, handover-size, digest-bytes, label-bytes, number-bytes, identity-place, first-place, second-place, third-place, label-place, tail-place, height-place, nonce-place, nonce-half, number-at}
+use Rattle.statement.specs.Kinds.{kind-number, receipt-size, handover-size, digest-bytes, label-bytes, number-bytes}
+use Rattle.statement.specs.Kinds.{identity-place, first-place, second-place, third-place, label-place, tail-place, height-place, nonce-place, nonce-half, number-at}
 use Rattle.statement.specs.Cut.{blank-statement, kind-at, receipt-at, handover-at, cut-as, cut-statement}
 use Rattle.statement.specs.Shape.{Arrays, Numbers, Shaped}
 use Rattle.statement.proofs.Strings.{Of, of-kind}

@@ -14,7 +14,8 @@ use Rattle.octets.proofs.Parts.{drop-next}
 use Rattle.octets.proofs.RoundTrips.{and-left, and-right}
 use Rattle.statement.specs.declared.Kind.{Kind}
 use Rattle.statement.specs.declared.Kind.the-variants.{Blank, New, Append, Read, Finalise, Initialise}
-use Rattle.statement.specs.Kinds.{kind-number, size, handover-size, digest-bytes, label-bytes, number-bytes, identity-place, first-place, second-place, third-place, label-place, tail-place, height-place, nonce-place, nonce-half, digest-at, label-at, number-at}
+use Rattle.statement.specs.Kinds.{kind-number, size, handover-size, digest-bytes, label-bytes, number-bytes}
+use Rattle.statement.specs.Kinds.{identity-place, first-place, second-place, third-place, label-place, tail-place, height-place, nonce-place, nonce-half, digest-at, label-at, number-at}
 use Rattle.statement.specs.Contents.{receipt, body, statement-written}
 use Rattle.statement.specs.Cut.{starts, kind-at, receipt-at, handover-at, cut-as}
 use Rattle.statement.proofs.Fields.{joined, number-field}

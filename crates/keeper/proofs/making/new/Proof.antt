@@ -22,7 +22,9 @@ use Rattle.keeper.proofs.making.new.Statement.{statement}
 use Rattle.keeper.proofs.making.new.Tie as tie
 
 lent : tie.Else1 → Lent
-lent c = record { head = c .before .before .before .before .before .before .args .head; table = now (c .before .before .before .before .before .before .args .table); area = now (c .before .before .before .before .before .before .args .area) }
+lent c =
+    let a = c .before .before .before .before .before .before .args in
+    record { head = a .head; table = now (a .table); area = now (a .area) }
 
 -- what is known once nothing refuses
 can : (c : tie.Else1) → Makeable (lent c) (c .before .before .before .before .before .before .args .label)
@@ -98,7 +100,19 @@ returns-2 c =
     let kind : size (rc .result .kind) ≡ receipt-size = ap (λ (v : Statement). size (v .kind)) (rc .ensures) in
     let long : length (statement-written (rc .result)) ≡ receipt-size = written-length (rc .result) (arrays (rc .result) _ (rc .ok)) (fits-kind (rc .result) fits) ∙ kind in
     let bytes : statement-written (rc .result) ≡ statement-written (receipt-of (a .head) New (a .label) no-digest) = ap statement-written (rc .ensures) in
-    rw (← (c .before .before .before .before .before .before .before .before .before .before .before .before .before .before .before .refusal-of-new .ensures), eq-eqb _ _ (c .before .before .before .before .before .before .before .before .before .before .before .before .before .before .if1 .left), ← bytes, long, c .acceptance .ensures, c .before .one-more .ensures, c .before .before .before .before .give .ensures, c .before .before .before .before .before .before .before .before .before .add-row .ensures, c .before .before .before .before .before .before .before .before .before .before .before .count-smaller .ensures)
+    let added = c .before .before .before .before .before .before .before .before .before in
+    let tested = added .before .before .before .before .before in
+    rw (
+      ← (tested .before .refusal-of-new .ensures),
+      eq-eqb _ _ (tested .if1 .left),
+      ← bytes,
+      long,
+      c .acceptance .ensures,
+      c .before .one-more .ensures,
+      c .before .before .before .before .give .ensures,
+      added .add-row .ensures,
+      added .before .before .count-smaller .ensures,
+    )
 
 pub new-spec : {M : Type 1} → statement M
 new-spec =

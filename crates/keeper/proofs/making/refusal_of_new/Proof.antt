@@ -16,7 +16,8 @@ unready-requires c κs = search needs
 returns : tie.Need-returns
 unfolding first new-refusal
 returns c =
-    let k : Lent = record { head = c .before .before .before .before .args .head; table = now (c .before .before .before .before .args .table); area = now (c .before .before .before .before .args .area) } in
+    let a = c .before .before .before .before .args in
+    let k : Lent = record { head = a .head; table = now (a .table); area = now (a .area) } in
     let u = c .before .unready in
     u .ensures ∙ sym (unready-first receipt-size k _ (u .result) (u .ensures) (c .if1 .taken))
 
@@ -29,9 +30,11 @@ is-zero-requires c κs = search needs
 returns-2 : tie.Need-returns-2
 unfolding first new-refusal
 returns-2 c =
-    let k : Lent = record { head = c .before .before .before .before .before .before .before .args .head; table = now (c .before .before .before .before .before .before .before .args .table); area = now (c .before .before .before .before .before .before .before .args .area) } in
+    let a = c .before .before .before .before .before .before .before .args in
+    let k : Lent = record { head = a .head; table = now (a .table); area = now (a .area) } in
     let u = c .before .before .before .before .unready in
-    sym (ready-first receipt-size k _ (u .result) (u .ensures) (c .before .before .before .if1 .left) ∙ rw (sym (c .before .is-zero .ensures) ∙ c .if2 .taken))
+    sym (ready-first receipt-size k _ (u .result) (u .ensures) (c .before .before .before .if1 .left)
+    ∙ rw (sym (c .before .is-zero .ensures) ∙ c .if2 .taken))
 
 is-known-requires : tie.Need-is-known-requires
 is-known-requires c κs = search needs
@@ -39,9 +42,11 @@ is-known-requires c κs = search needs
 returns-3 : tie.Need-returns-3
 unfolding first new-refusal
 returns-3 c =
-    let k : Lent = record { head = c .before .before .before .before .before .before .before .before .before .args .head; table = now (c .before .before .before .before .before .before .before .before .before .args .table); area = now (c .before .before .before .before .before .before .before .before .before .args .area) } in
+    let a = c .before .before .before .before .before .before .before .before .before .args in
+    let k : Lent = record { head = a .head; table = now (a .table); area = now (a .area) } in
     let u = c .before .before .before .before .before .before .unready in
-    sym (ready-first receipt-size k _ (u .result) (u .ensures) (c .before .before .before .before .before .if1 .left) ∙ rw (sym (c .before .before .before .is-zero .ensures) ∙ c .before .before .if2 .left, sym (c .before .is-known .ensures) ∙ c .if3 .taken))
+    sym (ready-first receipt-size k _ (u .result) (u .ensures) (c .before .before .before .before .before .if1 .left)
+    ∙ rw (sym (c .before .before .before .is-zero .ensures) ∙ c .before .before .if2 .left, sym (c .before .is-known .ensures) ∙ c .if3 .taken))
 
 cast-if4 : tie.Need-cast-if4
 cast-if4 c = search needs
@@ -49,16 +54,20 @@ cast-if4 c = search needs
 returns-4 : tie.Need-returns-4
 unfolding first new-refusal
 returns-4 c =
-    let k : Lent = record { head = c .before .before .before .before .before .before .before .before .before .before .before .args .head; table = now (c .before .before .before .before .before .before .before .before .before .before .before .args .table); area = now (c .before .before .before .before .before .before .before .before .before .before .before .args .area) } in
+    let a = c .before .before .before .before .before .before .before .before .before .before .before .args in
+    let k : Lent = record { head = a .head; table = now (a .table); area = now (a .area) } in
     let u = c .before .before .before .before .before .before .before .before .unready in
-    sym (ready-first receipt-size k _ (u .result) (u .ensures) (c .before .before .before .before .before .before .before .if1 .left) ∙ rw (sym (c .before .before .before .before .before .is-zero .ensures) ∙ c .before .before .before .before .if2 .left, sym (c .before .before .before .is-known .ensures) ∙ c .before .before .if3 .left, eq-eqb _ _ (c .if4 .taken)))
+    sym (ready-first receipt-size k _ (u .result) (u .ensures) (c .before .before .before .before .before .before .before .if1 .left)
+    ∙ rw (sym (c .before .before .before .before .before .is-zero .ensures) ∙ c .before .before .before .before .if2 .left, sym (c .before .before .before .is-known .ensures) ∙ c .before .before .if3 .left, eq-eqb _ _ (c .if4 .taken)))
 
 returns-5 : tie.Need-returns-5
 unfolding first new-refusal
 returns-5 c =
-    let k : Lent = record { head = c .before .before .before .before .before .before .before .before .before .before .before .args .head; table = now (c .before .before .before .before .before .before .before .before .before .before .before .args .table); area = now (c .before .before .before .before .before .before .before .before .before .before .before .args .area) } in
+    let a = c .before .before .before .before .before .before .before .before .before .before .before .args in
+    let k : Lent = record { head = a .head; table = now (a .table); area = now (a .area) } in
     let u = c .before .before .before .before .before .before .before .before .unready in
-    sym (ready-first receipt-size k _ (u .result) (u .ensures) (c .before .before .before .before .before .before .before .if1 .left) ∙ rw (sym (c .before .before .before .before .before .is-zero .ensures) ∙ c .before .before .before .before .if2 .left, sym (c .before .before .before .is-known .ensures) ∙ c .before .before .if3 .left, ne-eqb _ _ (c .if4 .left)))
+    sym (ready-first receipt-size k _ (u .result) (u .ensures) (c .before .before .before .before .before .before .before .if1 .left)
+    ∙ rw (sym (c .before .before .before .before .before .is-zero .ensures) ∙ c .before .before .before .before .if2 .left, sym (c .before .before .before .is-known .ensures) ∙ c .before .before .if3 .left, ne-eqb _ _ (c .if4 .left)))
 
 pub refusal-of-new-spec : {M : Type 1} → statement M
 refusal-of-new-spec =

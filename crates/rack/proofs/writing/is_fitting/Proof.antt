@@ -26,7 +26,8 @@ is-unused-after-requires c κs = search needs
 
 returns-4 : tie.Need-returns-4
 unfolding rack-fits
-returns-4 c = rw (le-leb 1 _ (c .before .before .before .before .if1 .left), le-leb _ most (c .before .before .before .if2 .left), sym (c .before .before .is-rising .ensures) ∙ not-false _ (c .before .if3 .left)) (c .is-unused-after .ensures)
+returns-4 c =
+    rw (le-leb 1 _ (c .before .before .before .before .if1 .left), le-leb _ most (c .before .before .before .if2 .left), sym (c .before .before .is-rising .ensures) ∙ not-false _ (c .before .if3 .left)) (c .is-unused-after .ensures)
 
 pub is-fitting-spec : {M : Type 1} → statement M
 is-fitting-spec =

@@ -55,37 +55,43 @@ returns : tie.Need-returns
 unfolding cut-as cut-statement
 returns c =
     let s = now (c .before .before .before .before .before .args .s) in
-    c .blank .ensures ∙ sym (ap (λ (k : Kind). cut-as k s) (sym (c .before .before .before .kind-at .ensures) ∙ c .before .enum-told .given .1))
+    c .blank .ensures
+    ∙ sym (ap (λ (k : Kind). cut-as k s) (sym (c .before .before .before .kind-at .ensures) ∙ c .before .enum-told .given .1))
 
 returns-2 : tie.Need-returns-2
 unfolding cut-as cut-statement
 returns-2 c =
     let s = now (c .before .before .before .before .before .args .s) in
-    c .receipt-at .ensures ∙ ap (λ (k : Kind). receipt-at k s) (c .before .enum-told2 .given .1) ∙ sym (ap (λ (k : Kind). cut-as k s) (sym (c .before .before .before .kind-at .ensures) ∙ c .before .enum-told2 .given .1))
+    c .receipt-at .ensures ∙ ap (λ (k : Kind). receipt-at k s) (c .before .enum-told2 .given .1)
+    ∙ sym (ap (λ (k : Kind). cut-as k s) (sym (c .before .before .before .kind-at .ensures) ∙ c .before .enum-told2 .given .1))
 
 returns-3 : tie.Need-returns-3
 unfolding cut-as cut-statement
 returns-3 c =
     let s = now (c .before .before .before .before .before .args .s) in
-    c .receipt-at2 .ensures ∙ ap (λ (k : Kind). receipt-at k s) (c .before .enum-told3 .given .1) ∙ sym (ap (λ (k : Kind). cut-as k s) (sym (c .before .before .before .kind-at .ensures) ∙ c .before .enum-told3 .given .1))
+    c .receipt-at2 .ensures ∙ ap (λ (k : Kind). receipt-at k s) (c .before .enum-told3 .given .1)
+    ∙ sym (ap (λ (k : Kind). cut-as k s) (sym (c .before .before .before .kind-at .ensures) ∙ c .before .enum-told3 .given .1))
 
 returns-4 : tie.Need-returns-4
 unfolding cut-as cut-statement
 returns-4 c =
     let s = now (c .before .before .before .before .before .args .s) in
-    c .receipt-at3 .ensures ∙ ap (λ (k : Kind). receipt-at k s) (c .before .enum-told4 .given .1) ∙ sym (ap (λ (k : Kind). cut-as k s) (sym (c .before .before .before .kind-at .ensures) ∙ c .before .enum-told4 .given .1))
+    c .receipt-at3 .ensures ∙ ap (λ (k : Kind). receipt-at k s) (c .before .enum-told4 .given .1)
+    ∙ sym (ap (λ (k : Kind). cut-as k s) (sym (c .before .before .before .kind-at .ensures) ∙ c .before .enum-told4 .given .1))
 
 returns-5 : tie.Need-returns-5
 unfolding cut-as cut-statement
 returns-5 c =
     let s = now (c .before .before .before .before .before .args .s) in
-    c .handover-at .ensures ∙ ap (λ (k : Kind). handover-at k first-place second-place s) (c .before .enum-told5 .given .1) ∙ sym (ap (λ (k : Kind). cut-as k s) (sym (c .before .before .before .kind-at .ensures) ∙ c .before .enum-told5 .given .1))
+    c .handover-at .ensures ∙ ap (λ (k : Kind). handover-at k first-place second-place s) (c .before .enum-told5 .given .1)
+    ∙ sym (ap (λ (k : Kind). cut-as k s) (sym (c .before .before .before .kind-at .ensures) ∙ c .before .enum-told5 .given .1))
 
 returns-6 : tie.Need-returns-6
 unfolding cut-as cut-statement
 returns-6 c =
     let s = now (c .before .before .before .before .before .args .s) in
-    c .handover-at2 .ensures ∙ ap (λ (k : Kind). handover-at k second-place first-place s) (c .before .enum-told6 .given .1) ∙ sym (ap (λ (k : Kind). cut-as k s) (sym (c .before .before .before .kind-at .ensures) ∙ c .before .enum-told6 .given .1))
+    c .handover-at2 .ensures ∙ ap (λ (k : Kind). handover-at k second-place first-place s) (c .before .enum-told6 .given .1)
+    ∙ sym (ap (λ (k : Kind). cut-as k s) (sym (c .before .before .before .kind-at .ensures) ∙ c .before .enum-told6 .given .1))
 
 pub cut-spec : {M : Type 1} → statement M
 cut-spec =

@@ -38,7 +38,8 @@ returns : tie.Need-returns
 returns c =
     let o = c .before .before .before .before .before .before .before .before .before .before .before .before .before in
     let a = o .args in
-    let e = c .before .before .before .before .before .before .put-number .ensures ∙ ap (λ (s : List ℕ). put s nonce-place (bytes-of number-bytes (a .high))) (c .before .before .before .before .before .before .before .before .before .before .put-receipt .ensures) in
+    let e = c .before .before .before .before .before .before .put-number .ensures
+    ∙ ap (λ (s : List ℕ). put s nonce-place (bytes-of number-bytes (a .high))) (c .before .before .before .before .before .before .before .before .before .before .put-receipt .ensures) in
     c .before .before .put-number2 .ensures ∙ ap (λ (s : List ℕ). put s nonce-half (bytes-of number-bytes (a .low))) e
     ∙ read-puts (a .v) (arrays (a .v) _ (o .good .0)) (now (a .area)) (a .height) (a .high) (a .low) (o .pre)
 

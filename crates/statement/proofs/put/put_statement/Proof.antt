@@ -38,7 +38,12 @@ put-body-requires c κs =
 
 same-length : tie.Need-same-length
 same-length c =
-    omega (arith, c .before .before .put-body .kept .1 .0, c .before .before .before .before .before .before .copy-at .kept .0, length-set (now (c .before .before .before .before .before .before .before .before .before .before .before .before .args .area)) 0 (c .before .before .before .before .before .before .before .before .before .kind-number .result))
+    omega (
+      arith,
+      c .before .before .put-body .kept .1 .0,
+      c .before .before .before .before .before .before .copy-at .kept .0,
+      length-set (now (c .before .before .before .before .before .before .before .before .before .before .before .before .args .area)) 0 (c .before .before .before .before .before .before .before .before .before .kind-number .result),
+    )
 
 returns : tie.Need-returns
 unfolding statement-written
@@ -46,7 +51,8 @@ returns c =
     let o = c .before .before .before .before .before .before .before .before .before .before .before .before in
     let a = o .args in
     let b = body (a .v) (a .v .kind) in
-    let e = c .before .before .before .before .before .before .copy-at .ensures ∙ ap (λ (k : ℕ). put (set (now (a .area)) 0 k) identity-place (a .v .identity)) (c .before .before .before .before .before .before .before .before .before .kind-number .ensures) in
+    let e = c .before .before .before .before .before .before .copy-at .ensures
+    ∙ ap (λ (k : ℕ). put (set (now (a .area)) 0 k) identity-place (a .v .identity)) (c .before .before .before .before .before .before .before .before .before .kind-number .ensures) in
     c .before .before .put-body .ensures ∙ ap (λ (s : List ℕ). put s first-place b) e
     ∙ statement-puts (now (a .area)) (kind-number (a .v .kind)) (a .v .identity) b (arrays (a .v) _ (o .good .0) .identity) (o .pre)
 

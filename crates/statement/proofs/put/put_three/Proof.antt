@@ -35,7 +35,8 @@ same-length c = search needs
 returns : tie.Need-returns
 returns c =
     let a = c .before .before .before .before .before .before .before .before .before .before .before .before .before .before .before .before .args in
-    let e = c .before .before .before .before .before .before .copy-at2 .ensures ∙ ap (λ (s : List ℕ). put s (first-place + length (now (a .a))) (now (a .b))) (c .before .before .before .before .before .before .before .before .before .before .copy-at .ensures) in
+    let e = c .before .before .before .before .before .before .copy-at2 .ensures
+    ∙ ap (λ (s : List ℕ). put s (first-place + length (now (a .a))) (now (a .b))) (c .before .before .before .before .before .before .before .before .before .before .copy-at .ensures) in
     c .before .before .copy-at3 .ensures ∙ ap (λ (s : List ℕ). put s (first-place + length (now (a .a)) + length (now (a .b))) (now (a .c))) e
     ∙ three-puts (now (a .area)) first-place (now (a .a)) (now (a .b)) (now (a .c)) (c .before .before .before .before .before .before .before .before .before .before .before .before .before .before .before .before .pre)
 

@@ -1,0 +1,2 @@
+-- What the three tests say together.
+pub mod Four
