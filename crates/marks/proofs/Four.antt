@@ -22,6 +22,13 @@ three m h a v =
 pub three-is : (marks-fit 3 ≡ true) × (attested 3 ≡ true) × (valid 3 ≡ true)
 three-is = (refl, refl, refl)
 
--- a test's two outcomes are equal
-pub one-outcome : (x y z : Bool) → x ≡ z → y ≡ z → x ≡ y
-one-outcome x y z p q = p ∙ sym q
+-- two outcomes that a test's contract allows are equal
+module _ (m : ℕ) (x y : Bool) where
+  pub attested-once : x ≡ attested m → y ≡ attested m → x ≡ y
+  attested-once p q = p ∙ sym q
+
+  pub valid-once : x ≡ valid m → y ≡ valid m → x ≡ y
+  valid-once p q = p ∙ sym q
+
+  pub marks-once : x ≡ marks-fit m → y ≡ marks-fit m → x ≡ y
+  marks-once p q = p ∙ sym q

@@ -69,9 +69,7 @@ module _ (count : ℕ) (rows : List ℕ) where
   -- the places stand behind the head
   pub block-places : (b : ℕ) → places-bytes * b + places-bytes ≤ length rows → take places-bytes (drop head-bytes (block count rows b)) ≡ places-of rows b
   unfolding block checked head
-  block-places b h =
-      let s : List ℕ = head count b ++ places-of rows b in
-      take-at (places-of rows b) (take check-bytes (sha256 s)) places-bytes (places-length b h)
+  block-places b h = take-at (places-of rows b) _ places-bytes (places-length b h)
 
   -- each string of blocks says the roll's count
   first-said : (n : ℕ) → places-bytes * suc n ≤ length rows → said-count (first-blocks count rows (suc n)) ≡ count

@@ -1,13 +1,16 @@
 -- `hash::sha256` meets its contract. Assumes nothing.
+use native.Mathlib.Omega.{arith}
+use denote.Ref.{now}
+use lib.ListN.{length}
 use borrow.Author.Tests.{le-leb, lt-leb}
 use borrow.Author.Needs.{needs}
-use Rattle.hash.specs.Promise.{hashing}
+use Rattle.hash.specs.Promise.{longest, hashing}
 use Rattle.hash.proofs.sha256.Statement.{statement}
 use Rattle.hash.proofs.sha256.Tie as tie
 
 returns : tie.Need-returns
 unfolding hashing
-returns c = rw (lt-leb _ _ (c .if1 .taken))
+returns c = rw (lt-leb (length (now (c .before .before .args .message))) longest (omega arith))
 
 digest-requires : tie.Need-digest-requires
 digest-requires c κs = search needs
