@@ -3,6 +3,7 @@
 use Prim.Native.Nat.{ℕ, _/_, _%_}
 use mathlib.Core.Bool.{Bool}
 use lib.Dec.{eqb}
+pub mod Entries
 
 -- bit 0
 abbrev pub attested : ℕ → Bool

@@ -1,5 +1,6 @@
 -- The answers of every call, as the contracts name them: 0 on acceptance, otherwise the refusal's number in document 01's table, with the meaning given there.
 use Prim.Native.Nat.{ℕ}
+pub mod Order
 
 -- the call is accepted
 abbrev pub accepted : ℕ

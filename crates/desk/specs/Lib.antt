@@ -1,0 +1,2 @@
+-- The desk's rule.
+pub mod Verdict

@@ -1,0 +1,8 @@
+// The desk's verdict: whether a rack's signers vouch for a ledger's tail and height.
+
+// What the desk may show: 0 with the tail and the height, or a refusal and zeros.
+pub struct Finding {
+    pub number: u32,
+    pub tail: [u8; 32],
+    pub height: u64,
+}

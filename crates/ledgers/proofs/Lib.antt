@@ -1,0 +1,3 @@
+-- The laws that the proofs of the ledgers' calls cite.
+pub mod Makes
+pub mod Tables

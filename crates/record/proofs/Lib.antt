@@ -1,0 +1,2 @@
+-- The laws of a keeper's record that the calls' proofs cite.
+pub mod Firsts

@@ -1,0 +1,13 @@
+-- `record::soundness::is_counted` meets its contract. Assumes nothing.
+use borrow.Author.Tests.{eq-eqb, ne-eqb}
+use Rattle.record.proofs.soundness.is_counted.Statement.{statement}
+use Rattle.record.proofs.soundness.is_counted.Tie as tie
+
+returns : tie.Need-returns
+returns c = rw (eq-eqb _ _ (c .if1 .taken))
+
+returns-2 : tie.Need-returns-2
+returns-2 c = rw (ne-eqb _ _ (c .if1 .left))
+
+pub is-counted-spec : {M : Type 1} → statement M
+is-counted-spec = tie.close (tie.spec returns returns-2)
