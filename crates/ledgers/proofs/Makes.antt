@@ -7,7 +7,8 @@ use native.Mathlib.Omega.{arith}
 use borrow.Author.Tests.{eqb-false}
 use lib.ListN.{length}
 use lib.Dec.{eqb}
-use Rattle.refusals.specs.{accepted, label-zero, ledger-exists, table-full}
+use Rattle.refusals.specs.{accepted, label-zero, ledger-exists, table-full, not-active}
+use Rattle.refusals.proofs.Orders.{passes}
 use Rattle.octets.specs.Strings.{all-zero, before}
 use Rattle.rows.specs.Sizes.{most-rows, table-bytes}
 use Rattle.rows.specs.Table.{rows-fit}
@@ -18,11 +19,12 @@ use Rattle.rows.specs.Row.{label-of, row-holds}
 use Rattle.statement.specs.Contents.{receipt-fits, fits-as, statement-fits}
 use Rattle.statement.specs.Cut.{no-digest}
 use Rattle.rules.specs.declared.Head.{Head}
+use Rattle.rules.specs.Record.{active}
 use Rattle.rules.specs.Outcomes.{Lent}
 use Rattle.rules.specs.Table.{smaller}
 use Rattle.rules.specs.Rows.{is-absent, sought, receipt-of}
 use Rattle.rules.specs.New.{new-refusal}
-use Rattle.record.proofs.Firsts.{passes, ready, sound-rows}
+use Rattle.record.proofs.Firsts.{ready, sound-rows}
 use Rattle.ledgers.proofs.Tables.{at-most-one}
 
 pub smaller-most : (n : ℕ) (rows label : List ℕ) → smaller n rows label ≤ n
@@ -39,7 +41,7 @@ pub record Makeable (k : Lent) (label : List ℕ) : Type 0 where
 pub makeable : (k : Lent) (label : List ℕ) → new-refusal k label ≡ accepted → Makeable k label
 unfolding new-refusal
 makeable k label e =
-    let r = ready receipt-size k _ e in
+    let r = ready receipt-size active not-active k _ (eqb-false 4 0 refl) e in
     let a = passes (all-zero label) label-zero _ (eqb-false 14 0 refl) (r .1) in
     let b = passes (not (is-absent (sought k label))) ledger-exists _ (eqb-false 9 0 refl) (a .1) in
     let c = passes (eqb (k .head .count) most-rows) table-full _ (eqb-false 13 0 refl) (b .1) in

@@ -4,9 +4,10 @@ use denote.Ref.{now}
 use borrow.Author.Tests.{eq-eqb, ne-eqb}
 use borrow.Author.Needs.{needs}
 use Rattle.statement.specs.Kinds.{receipt-size}
-use Rattle.rules.specs.Outcomes.{Lent, first}
+use Rattle.refusals.specs.Order.{first}
+use Rattle.rules.specs.Outcomes.{Lent}
 use Rattle.rules.specs.New.{new-refusal}
-use Rattle.record.proofs.Firsts.{unready-first, ready-first}
+use Rattle.ledgers.proofs.Actives.{unready-first, ready-first}
 use Rattle.ledgers.proofs.making.refusal_of_new.Statement.{statement}
 use Rattle.ledgers.proofs.making.refusal_of_new.Tie as tie
 
@@ -19,7 +20,7 @@ returns c =
     let a = c .before .before .before .before .args in
     let k : Lent = record { head = a .head; table = now (a .table); area = now (a .area) } in
     let u = c .before .unready in
-    u .ensures ∙ sym (unready-first receipt-size k _ (u .result) (u .ensures) (c .if1 .taken))
+    sym (unready-first receipt-size k _ (u .result) (u .ensures) (c .if1 .taken))
 
 slice-aggregate-is-zero : tie.Need-slice-aggregate-is-zero
 slice-aggregate-is-zero c = search needs

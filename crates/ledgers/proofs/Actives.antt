@@ -1,0 +1,21 @@
+-- Laws of the tests of an active keeper: what readiness leaves to the tests after it. Assumes nothing.
+use mathlib.Core.Path.{_≡_, refl, sym, _∙_}
+use mathlib.Core.List.{List, _++_}
+use Prim.Native.Nat.{ℕ}
+use Rattle.refusals.specs.{accepted, not-active}
+use Rattle.refusals.specs.Order.{Test, first}
+use Rattle.refusals.proofs.Orders.{numbered, stops, goes-on}
+use Rattle.rules.specs.Record.{active}
+use Rattle.rules.specs.Outcomes.{Lent, lending, readiness}
+
+abbrev pub asked : ℕ → Lent → List Test
+asked size k = readiness size active not-active k
+
+module _ (size : ℕ) (k : Lent) (ts : List Test) (n : ℕ) (e : n ≡ first (asked size k)) where
+  pub unready-first : (n ≡ accepted → ⊥) → first (asked size k ++ ts) ≡ n
+  unfolding readiness lending numbered
+  unready-first refuses = stops (asked size k) ts n refl e refuses ∙ sym e
+
+  pub ready-first : n ≡ accepted → first (asked size k ++ ts) ≡ first ts
+  unfolding readiness lending numbered
+  ready-first accepts = goes-on (asked size k) ts n refl e accepts
