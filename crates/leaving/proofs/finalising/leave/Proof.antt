@@ -1,17 +1,22 @@
+-- `leaving::finalising::leave` meets its contract. Assumes nothing.
+use mathlib.Core.Path.{_≡_, ap, _∙_}
+use mathlib.Core.List.{List}
+use Prim.Native.Nat.{ℕ}
 use borrow.Author.Needs.{needs}
+use denote.Ref.{now}
+use Rattle.rack.specs.Racks.{rack-digest}
+use Rattle.rack.proofs.RackTrips.{rack-whole}
 use Rattle.leaving.proofs.finalising.leave.Statement.{statement}
 use Rattle.leaving.proofs.finalising.leave.Tie as tie
-use Rattle.leaving.proofs.finalising.leave.Reads as reads
-use Rattle.leaving.proofs.finalising.leave.Lts as lts
-use Rattle.rack.proofs.rack_digest.Reads as rack-digest-reads
 
--- src/finalising.rt:42:9
 rack-digest-requires : tie.Need-rack-digest-requires
 rack-digest-requires c κs = search needs
 
--- src/finalising.rt:38:1
 returns : tie.Need-returns
-returns c = ?
+returns c =
+    let a = c .before .before .args in
+    let whole : c .rack-digest .result ≡ rack-digest (now (a .next)) = c .rack-digest .ensures ∙ ap rack-digest (rack-whole (now (a .next)) (c .before .before .pre)) in
+    rw whole
 
 pub leave-spec : {M : Type 1} → statement M
 leave-spec = tie.close (tie.spec rack-digest-requires returns)

@@ -1,30 +1,45 @@
+-- `leaving::words::put_roll` meets its contract. Assumes nothing.
+use mathlib.Core.Path.{_≡_, ap, _∙_}
+use mathlib.Core.List.{List}
+use Prim.Native.Nat.{ℕ}
+use native.Mathlib.Omega.{arith}
+use denote.Ref.{now}
 use borrow.Author.Needs.{needs}
+use Rattle.rows.proofs.Tables.{fit-length}
+use Rattle.octets.specs.Layouts.{Written}
+use Rattle.octets.proofs.Puts.{put-all}
+use Rattle.octets.proofs.Writings.{writing-done}
+use Rattle.refusals.specs.{roll-broken}
+use Rattle.roll.specs.Roll.{Roll, roll-layout, writing-roll}
+use Rattle.leaving.proofs.Said.{roll-fits, roll-room}
 use Rattle.leaving.proofs.words.put_roll.Statement.{statement}
 use Rattle.leaving.proofs.words.put_roll.Tie as tie
-use Rattle.leaving.proofs.words.put_roll.Reads as reads
-use Rattle.leaving.proofs.words.put_roll.Lts as lts
-use Rattle.octets.proofs.copy_at.Reads as copy-at-reads
-use Rattle.roll.proofs.write_roll.Reads as write-roll-reads
 
--- src/words.rt:48:13
 slice-aggregate-copy-at : tie.Need-slice-aggregate-copy-at
 slice-aggregate-copy-at c = search needs
 
--- src/words.rt:48:5
 copy-at-requires : tie.Need-copy-at-requires
-copy-at-requires c κs = ?
+copy-at-requires c κs =
+    let s = c .before .before .before in
+    omega (arith, fit-length (s .args .count) (now (s .args .table)) (s .pre .0))
 
--- src/words.rt:49:9
 write-roll-requires : tie.Need-write-roll-requires
 write-roll-requires c κs = search needs
 
--- src/words.rt:43:1
 same-length : tie.Need-same-length
 same-length c = search needs
 
--- src/words.rt:43:1
 returns : tie.Need-returns
-returns c = ?
+unfolding writing-roll
+returns c =
+    let copied = c .before .before .before .before .before .before in
+    let s = copied .before .before .before .before in
+    let a = s .args in
+    let v : Roll = record { count = a .count; rows = now (a .table) } in
+    let rows : copied .copy-at .last .0 ≡ now (a .table) = copied .copy-at .ensures ∙ put-all _ (now (a .table)) (omega (arith, fit-length (a .count) (now (a .table)) (s .pre .0))) in
+    let done = writing-done roll-layout roll-broken v (now (a .area)) (roll-fits (a .count) (now (a .table)) (s .pre .0)) (omega (arith, roll-room (a .count) (now (a .table)) (s .pre .0))) in
+    let w = c .before .before .write-roll .ensures ∙ ap (λ (l : List ℕ). writing-roll (a .count) l (now (a .area))) rows ∙ done in
+    (ap (λ (x : Written). x .area) w, ap (λ (x : Written). x .count) w)
 
 pub put-roll-spec : {M : Type 1} → statement M
 put-roll-spec =

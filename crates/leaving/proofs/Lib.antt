@@ -1,0 +1,2 @@
+-- The laws that Finalise's proofs cite.
+pub mod Said
