@@ -1,8 +1,8 @@
--- Laws of a keeper's last words: the statement fits, the blocks have room, and they stand behind the statement. Assumes nothing.
+-- Laws of a keeper's last words: the statement fits, and the blocks have room and stand behind it. Assumes nothing.
 use mathlib.Core.Path.{_≡_, refl, sym, ap, ap₂, _∙_}
 use mathlib.Core.Bool.{true}
 use mathlib.Core.List.{List, [], _++_, append-assoc, append-nil}
-use Prim.Native.Nat.{ℕ, _+_, _-_, _≤_}
+use Prim.Native.Nat.{ℕ, _+_, _-_, _*_, _≤_}
 use native.Mathlib.Nat.{zero-add}
 use native.Mathlib.Omega.{arith}
 use borrow.Rule.Slice.PartMut.{putMid}
@@ -12,14 +12,14 @@ use Rattle.octets.specs.Strings.{put, all-zero}
 use Rattle.rows.specs.Table.{rows-fit}
 use Rattle.rows.specs.Digests.{roll-digest}
 use Rattle.rows.proofs.Tables.{fit-count, rest-part}
-use Rattle.roll.specs.Roll.{Roll, roll-layout}
+use Rattle.roll.specs.Blocks.{block-bytes, blocks}
 use Rattle.roll.proofs.Blocks.{blocks-within}
-use Rattle.roll.proofs.Rolls.{written-length}
 use Rattle.statement.specs.declared.Kind.the-variants.{Finalise}
 use Rattle.statement.specs.declared.Statement.{Statement}
 use Rattle.statement.specs.Contents.{handover-fits, fits-as, statement-fits}
 use Rattle.statement.specs.Cut.{no-digest, no-label}
 use Rattle.rules.specs.declared.Head.{Head}
+use Rattle.rules.specs.Bundle.{most-blocks}
 
 -- a string put into what follows a place is put there
 put-part : (d : List ℕ) (at : ℕ) (s : List ℕ) → take at d ++ put (drop at d) 0 s ≡ put d at s
@@ -45,12 +45,6 @@ pub said-fits : (h : Head) (table : List ℕ) → statement-fits (said h table) 
 unfolding all-zero handover-fits fits-as statement-fits
 said-fits h table = refl
 
-module _ (count : ℕ) (table : List ℕ) (fit : rows-fit count table ≡ true) where
-  pub roll-fits : roll-layout .fits (record { count = count; rows = table }) ≡ true
-  unfolding roll-layout
-  roll-fits = fit
-
-  -- seven blocks at most
-  pub roll-room : length (roll-layout .written (record { count = count; rows = table })) ≤ 3584
-  unfolding roll-layout
-  roll-room = omega (arith, written-length count table fit, blocks-within count (fit-count count table fit))
+-- seven blocks at most
+pub roll-room : (count : ℕ) (table : List ℕ) → rows-fit count table ≡ true → block-bytes * blocks count ≤ block-bytes * most-blocks
+roll-room count table fit = omega (arith, blocks-within count (fit-count count table fit))

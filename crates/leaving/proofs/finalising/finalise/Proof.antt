@@ -7,7 +7,6 @@ use borrow.Author.Tests.{eq-eqb, ne-eqb}
 use borrow.Author.Needs.{needs}
 use lib.ListN.{length}
 use Rattle.rows.specs.Table.{rows-fit}
-use Rattle.rules.specs.declared.Head.{Head}
 use Rattle.rules.specs.declared.Told.{Told}
 use Rattle.rules.specs.Outcomes.{Lent, outcome, refused, given, again, unless}
 use Rattle.rules.specs.Finalise.{finalise-size, finalise-refusal, leaving, finalising}

@@ -1,9 +1,7 @@
 -- `leaving::finalising::leave` meets its contract. Assumes nothing.
 use mathlib.Core.Path.{_≡_, ap, _∙_}
-use mathlib.Core.List.{List}
-use Prim.Native.Nat.{ℕ}
-use borrow.Author.Needs.{needs}
 use denote.Ref.{now}
+use borrow.Author.Needs.{needs}
 use Rattle.rack.specs.Racks.{rack-digest}
 use Rattle.rack.proofs.RackTrips.{rack-whole}
 use Rattle.leaving.proofs.finalising.leave.Statement.{statement}

@@ -8,10 +8,9 @@ use borrow.Author.Needs.{needs}
 use Rattle.rows.proofs.Tables.{fit-length}
 use Rattle.octets.specs.Layouts.{Written}
 use Rattle.octets.proofs.Puts.{put-all}
-use Rattle.octets.proofs.Writings.{writing-done}
-use Rattle.refusals.specs.{roll-broken}
-use Rattle.roll.specs.Roll.{Roll, roll-layout, writing-roll}
-use Rattle.leaving.proofs.Said.{roll-fits, roll-room}
+use Rattle.roll.specs.Roll.{writing-roll}
+use Rattle.roll.proofs.Rolls.{writing-done}
+use Rattle.leaving.proofs.Said.{roll-room}
 use Rattle.leaving.proofs.words.put_roll.Statement.{statement}
 use Rattle.leaving.proofs.words.put_roll.Tie as tie
 
@@ -30,15 +29,17 @@ same-length : tie.Need-same-length
 same-length c = search needs
 
 returns : tie.Need-returns
-unfolding writing-roll
 returns c =
     let copied = c .before .before .before .before .before .before in
-    let s = copied .before .before .before .before in
-    let a = s .args in
-    let v : Roll = record { count = a .count; rows = now (a .table) } in
-    let rows : copied .copy-at .last .0 ≡ now (a .table) = copied .copy-at .ensures ∙ put-all _ (now (a .table)) (omega (arith, fit-length (a .count) (now (a .table)) (s .pre .0))) in
-    let done = writing-done roll-layout roll-broken v (now (a .area)) (roll-fits (a .count) (now (a .table)) (s .pre .0)) (omega (arith, roll-room (a .count) (now (a .table)) (s .pre .0))) in
-    let w = c .before .before .write-roll .ensures ∙ ap (λ (l : List ℕ). writing-roll (a .count) l (now (a .area))) rows ∙ done in
+    let entry = copied .before .before .before .before in
+    let n = entry .args .count in
+    let t : List ℕ = now (entry .args .table) in
+    let area : List ℕ = now (entry .args .area) in
+    let fit = entry .pre .0 in
+    let rows : copied .copy-at .last .0 ≡ t = copied .copy-at .ensures ∙ put-all _ t (omega (arith, fit-length n t fit)) in
+    let w =
+    c .before .before .write-roll .ensures ∙ ap (λ (l : List ℕ). writing-roll n l area) rows
+    ∙ writing-done n t area fit (omega (arith, entry .pre .1, roll-room n t fit)) in
     (ap (λ (x : Written). x .area) w, ap (λ (x : Written). x .count) w)
 
 pub put-roll-spec : {M : Type 1} → statement M

@@ -1,7 +1,7 @@
 -- `leaving::words::speak` meets its contract. Assumes nothing.
-use mathlib.Core.Path.{_≡_, ap, ap₂, sym, _∙_}
+use mathlib.Core.Path.{_≡_, sym, ap, _∙_}
 use mathlib.Core.Bool.{true}
-use mathlib.Core.List.{List, _++_}
+use mathlib.Core.List.{List}
 use Prim.Native.Nat.{ℕ, _+_, _-_}
 use native.Mathlib.Omega.{arith}
 use denote.Ref.{now}
@@ -10,7 +10,9 @@ use borrow.Author.Needs.{needs}
 use lib.ListN.{length, length-append}
 use Rattle.octets.specs.Strings.{put}
 use Rattle.octets.proofs.Puts.{put-put}
-use Rattle.roll.specs.Roll.{Roll, roll-layout}
+use Rattle.roll.specs.Blocks.{blocks, first-blocks}
+use Rattle.roll.specs.Roll.{roll-layout}
+use Rattle.roll.proofs.Rolls.{written-length as blocks-length}
 use Rattle.statement.specs.declared.Statement.{Statement}
 use Rattle.statement.specs.Kinds.{handover-size, size}
 use Rattle.statement.specs.Contents.{statement-written, statement-fits}
@@ -52,7 +54,7 @@ same-length : tie.Need-same-length
 same-length c = search needs
 
 returns : tie.Need-returns
-unfolding finalise-statement last-words
+unfolding roll-layout finalise-statement last-words
 returns c =
     let given = c .before .before .before .before .before .before in
     let entry = given .before .before .before .before .before in
@@ -61,7 +63,8 @@ returns c =
     let area : List ℕ = now (entry .args .area) in
     let v = given .before .before .last-statement in
     let s : List ℕ = statement-written (said h t) in
-    let w : List ℕ = roll-layout .written (record { count = h .count; rows = t }) in
+    let w : List ℕ = first-blocks (h .count) t (blocks (h .count)) in
+    let behind = blocks-length (h .count) t (entry .pre .0) in
     let fits : statement-fits (v .result) ≡ true = ap statement-fits (v .ensures) ∙ said-fits h t in
     let kind : size (v .result .kind) ≡ handover-size = ap (λ (x : Statement). size (x .kind)) (v .ensures) in
     let long : length s ≡ handover-size =
@@ -69,12 +72,11 @@ returns c =
     let x : List ℕ = given .give .last .1 .0 in
     let first : x ≡ put area 0 s = given .give .ensures ∙ ap (λ (y : Statement). put area 0 (statement-written y)) (v .ensures) in
     let room = roll-room (h .count) t (entry .pre .0) in
-    let rolled = c .before .before .put-roll .ensures in
-    (
+    let rolled = c .before .before .put-roll .ensures in (
       ap (putMid handover-size (length x - handover-size) x) (rolled .0) ∙ put-lent x handover-size w
-      ∙ ap (λ (y : List ℕ). put y handover-size w) first
-      ∙ put-put area 0 s w handover-size (omega arith) (omega (arith, entry .pre .1)),
-      ap (λ (n : ℕ). handover-size + n) (rolled .1) ∙ omega (arith, length-append s w),
+          ∙ ap (λ (y : List ℕ). put y handover-size w) first
+          ∙ put-put area 0 s w handover-size (omega arith) (omega (arith, entry .pre .1, behind)),
+      ap (λ (n : ℕ). handover-size + n) (rolled .1) ∙ omega (arith, behind, length-append s w),
     )
 
 pub speak-spec : {M : Type 1} → statement M
