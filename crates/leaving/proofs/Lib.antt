@@ -1,0 +1,3 @@
+-- The laws that Finalise's proofs cite.
+pub mod Leaves
+pub mod Said

@@ -1,0 +1,6 @@
+// Finalise: a keeper's last call, over its head by value and its table as flat bytes.
+
+mod finalising;
+mod words;
+
+pub use finalising::finalise;
