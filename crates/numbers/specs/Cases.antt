@@ -1,0 +1,100 @@
+-- 01, "Numbers to try": the cases "Marked P: proved for the rules themselves, gathered in a single list under one claim", in the order of 01.
+use mathlib.Core.Path.{_≡_}
+use mathlib.Core.Bool.{true, false}
+use mathlib.Core.List.{List, [], _∷_}
+use Prim.Native.Nat.{ℕ, _+_, _<_, _≤_}
+use lib.ListN.{length}
+use Rattle.refusals.specs.{accepted, signature-not-valid, initialise-not-valid}
+use Rattle.refusals.specs.Order.{first}
+use Rattle.octets.specs.Layouts.{Layout, holds}
+use Rattle.rack.specs.Racks.{Rack, rack-layout, rack-cut, majority}
+use Rattle.rack.specs.Promise.{reading}
+use Rattle.rows.specs.Digests.{appended}
+use Rattle.roll.specs.Blocks.{blocks}
+use Rattle.statement.specs.declared.Kind.the-variants.{Append}
+use Rattle.statement.specs.Kinds.{receipt-size, handover-size}
+use Rattle.statement.specs.Contents.{statement-written}
+use Rattle.rules.specs.declared.Head.{Head}
+use Rattle.rules.specs.Record.{blank, active, sound}
+use Rattle.rules.specs.Outcomes.{Lent, Outcome, refused, given, again}
+use Rattle.rules.specs.Table.{moved}
+use Rattle.rules.specs.Rows.{is-absent, row-number, sought, present-tail, present-height, receipt-of}
+use Rattle.rules.specs.Initialise.{is-in-rack, initialising}
+use Rattle.rules.specs.New.{making}
+use Rattle.rules.specs.Append.{appending}
+use Rattle.rules.specs.Finalise.{finalise-size, last-words, handed-over, finalising}
+use Rattle.rules.specs.Bundle.{old-count, old-marks, new-count, new-entries}
+use Rattle.rules.specs.Derivation.{row-in, roll-of}
+use Rattle.rules.specs.Activate.{rack-size, own-roll, bundle-tests, activating}
+use Rattle.marks.specs.Entries.{marks-tests, pair-marks}
+use Rattle.desk.specs.Verdict.{Question, is-asked-for, has-other-nonce, verdict-refusal}
+
+-- a sound record of a status, lent with an area of so many bytes
+pub record Ready (status size : ℕ) (k : Lent) : Type 0 where
+  pub room : size ≤ length (k .area)
+  pub sounds : sound (k .head) (k .table) ≡ true
+  pub has-status : k .head .status ≡ status
+
+-- an active keeper that has a ledger at a height
+pub record Stands (k : Lent) (label : List ℕ) (height : ℕ) : Type 0 where
+  pub ready : Ready active receipt-size k
+  pub known : is-absent (sought k label) ≡ false
+  pub height-is : present-height k label ≡ height
+
+-- a question about a rack of three whose statement is the one asked for
+pub record Asked (q : Question) (s : List ℕ) : Type 0 where
+  pub rack-holds : holds rack-layout (q .rack) ≡ true
+  pub of-three : rack-cut (q .rack) .count ≡ 3
+  pub asked-for : is-asked-for q s ≡ true
+  pub nonce : has-other-nonce q s ≡ false
+
+-- a bundle that passes every test before the derivation
+pub record Offered (k : Lent) (previous own s : List ℕ) : Type 0 where
+  pub passes : first (bundle-tests 0 k previous own s) ≡ accepted
+  pub old-many : majority (rack-size previous) ≤ old-count s
+  pub new-many : majority (rack-size own) ≤ new-count s
+  pub old-marked : first (marks-tests signature-not-valid (old-marks s) (old-count s)) ≡ accepted
+  pub new-marked : first (marks-tests initialise-not-valid (pair-marks (new-entries s)) (new-count s)) ≡ accepted
+
+pub record Numbers-to-try : Type 0 where
+  -- "majorities of 1, 2, 3, 4, 15: 1, 2, 2, 3, 8"
+  pub majorities : (majority 1 ≡ 1) × (majority 2 ≡ 2) × (majority 3 ≡ 2) × (majority 4 ≡ 3) × (majority 15 ≡ 8)
+  -- "blocks for 0, 9, 10, 63 rows: 1, 1, 2, 7"
+  pub blocks-of : (blocks 0 ≡ 1) × (blocks 9 ≡ 1) × (blocks 10 ≡ 2) × (blocks 63 ≡ 7)
+  -- "a rack with n = 0 or 16: 6. A rack of 15 has 481 bytes."
+  pub rack-of-none : (s : List ℕ) (keys : List (List ℕ)) → reading (0 ∷ s) keys ≡ record { answer = 6; count = 0; keys = keys }
+  pub rack-of-sixteen : (s : List ℕ) (keys : List (List ℕ)) → reading (16 ∷ s) keys ≡ record { answer = 6; count = 0; keys = keys }
+  pub rack-of-fifteen : (s : List ℕ) → holds rack-layout s ≡ true → rack-cut s .count ≡ 15 → length s ≡ 481
+  -- "append on a blank keeper: 4"
+  pub append-on-blank : (k : Lent) (label entry : List ℕ) (expected : ℕ) → Ready blank receipt-size k → appending k label entry expected ≡ refused 4 0 k
+  -- "new of an existing label: 9, also with 63 rows"
+  pub new-of-existing : (k : Lent) (label : List ℕ) (height : ℕ) → Stands k label height → making k label ≡ refused 9 0 k
+  pub new-of-existing-of-63 : (k : Lent) (label : List ℕ) (height : ℕ) → Stands k label height → k .head .count ≡ 63 → making k label ≡ refused 9 0 k
+  -- "height 0, expected 2: 11 with 0; expected 1: accepted at height 1"
+  pub one-too-high : (k : Lent) (label entry : List ℕ) → Stands k label 0 → appending k label entry 2 ≡ refused 11 0 k
+  pub first-entry :
+    (k : Lent) (label entry : List ℕ) → Stands k label 0
+    → appending k label entry 1
+    ≡ given (statement-written (receipt-of (k .head) (Append 1) label (appended (present-tail k label) entry))) (k .head)
+      (moved (k .table) (row-number (sought k label)) (appended (present-tail k label) entry) 1) (k .area)
+  -- "height 4,294,967,295: expected 4,294,967,296 gives 12, expected 5 gives 11"
+  pub above-the-top : (k : Lent) (label entry : List ℕ) → Stands k label 4294967295 → appending k label entry 4294967296 ≡ refused 12 0 k
+  pub far-below : (k : Lent) (label entry : List ℕ) → Stands k label 4294967295 → appending k label entry 5 ≡ refused 11 4294967295 k
+  -- "second finalise naming another rack: the first statement again"
+  pub second-finalise :
+    (k : Lent) (next other area : List ℕ) → Ready active finalise-size k → holds rack-layout next ≡ true → finalise-size ≤ length area
+    → (finalising k next ≡ given (last-words (handed-over (k .head) next) (k .table)) (handed-over (k .head) next) (k .table) (k .area))
+    × (finalising (record { head = handed-over (k .head) next; table = k .table; area = area }) other
+      ≡ again (last-words (handed-over (k .head) next) (k .table)) (record { head = handed-over (k .head) next; table = k .table; area = area }))
+  -- "rack of 3, signer positions 1, 1: 22; one valid signer: 16; two: accepted"
+  pub same-signer-twice : (q : Question) (s : List ℕ) (m n : ℕ) → Asked q s → verdict-refusal q s (1 ∷ m ∷ 1 ∷ n ∷ []) ≡ 22
+  pub one-signer : (q : Question) (s : List ℕ) (p : ℕ) → Asked q s → p < 3 → verdict-refusal q s (p ∷ 3 ∷ []) ≡ 16
+  pub two-signers : (q : Question) (s : List ℕ) (p r : ℕ) → Asked q s → p < r → r < 3 → verdict-refusal q s (p ∷ 3 ∷ r ∷ 3 ∷ []) ≡ 0
+  -- "roll without previous rack: 8"
+  pub roll-alone :
+    (k : Lent) (identity roll own : List ℕ) → Ready blank handover-size k → holds rack-layout own ≡ true → is-in-rack (k .head .key) own ≡ true
+    → 1 ≤ length roll → initialising k identity roll [] own ≡ refused 8 0 k
+  -- "an old roll lacking one of our ledgers: 20"
+  pub lacking-one :
+    (k : Lent) (previous own s : List ℕ) (i r : ℕ) → Offered k previous own s → i < old-count s → r < k .head .count
+    → is-absent (row-in (roll-of s i) (own-roll k) r) ≡ true → activating k previous own s ≡ refused 20 0 k

@@ -1,0 +1,2 @@
+-- 01's numbers to try.
+pub mod Cases
