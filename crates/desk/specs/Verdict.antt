@@ -1,19 +1,18 @@
 -- 01, "Verdict (retained identity, rack, asked kind 1 to 3, label, nonce, statement, signers): 6, 22, 23, 24, 16, then for each signer 17, 18. Gives tail and height. Signers are pairs of position
 -- and marks, one byte each, at most n whole pairs, positions strictly rising and below n, otherwise 22. The nonce counts for kind 3 only. Asked kinds outside 1 to 3 are 23."
 use mathlib.Core.Bool.{Bool, not, cond, _&&_}
-use mathlib.Core.List.{List, [], _∷_, _++_}
+use mathlib.Core.List.{List, _∷_}
 use Prim.Native.Nat.{ℕ, _*_, _/_}
 use lib.ListN.{length, drop}
 use lib.Dec.{eqb, leb, ltb}
 use Rattle.refusals.specs.{accepted, rack-broken, list-broken, statement-not-asked, nonce-differs, too-few, signature-not-valid}
 use Rattle.refusals.specs.Order.{_⇒_, first}
 use Rattle.octets.specs.Strings.{same}
-use Rattle.octets.specs.Layouts.{Layout, holds}
+use Rattle.octets.specs.Layouts.{holds}
 use Rattle.marks.specs.Entries.{entries-fit, marks-tests, pair-position, pair-marks}
-use Rattle.rack.specs.Racks.{Rack, rack-layout, rack-cut, rack-digest, majority}
+use Rattle.rack.specs.Racks.{rack-layout, rack-cut, rack-digest, majority}
 use Rattle.statement.specs.declared.Kind.{Kind}
 use Rattle.statement.specs.declared.Kind.the-variants.{Blank, New, Append, Read, Finalise, Initialise}
-use Rattle.statement.specs.declared.Statement.{Statement}
 use Rattle.statement.specs.Kinds.{kind-number, nonce-place}
 use Rattle.statement.specs.Cut.{no-digest, cut-statement}
 use Rattle.statement.specs.Layout.{statement-layout}

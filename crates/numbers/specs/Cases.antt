@@ -2,21 +2,20 @@
 use mathlib.Core.Path.{_≡_}
 use mathlib.Core.Bool.{true, false}
 use mathlib.Core.List.{List, [], _∷_}
-use Prim.Native.Nat.{ℕ, _+_, _<_, _≤_}
+use Prim.Native.Nat.{ℕ, _<_, _≤_}
 use lib.ListN.{length}
 use Rattle.refusals.specs.{accepted, signature-not-valid, initialise-not-valid}
 use Rattle.refusals.specs.Order.{first}
-use Rattle.octets.specs.Layouts.{Layout, holds}
-use Rattle.rack.specs.Racks.{Rack, rack-layout, rack-cut, majority}
+use Rattle.octets.specs.Layouts.{holds}
+use Rattle.rack.specs.Racks.{rack-layout, rack-cut, majority}
 use Rattle.rack.specs.Promise.{reading}
 use Rattle.rows.specs.Digests.{appended}
 use Rattle.roll.specs.Blocks.{blocks}
 use Rattle.statement.specs.declared.Kind.the-variants.{Append}
 use Rattle.statement.specs.Kinds.{receipt-size, handover-size}
 use Rattle.statement.specs.Contents.{statement-written}
-use Rattle.rules.specs.declared.Head.{Head}
 use Rattle.rules.specs.Record.{blank, active, sound}
-use Rattle.rules.specs.Outcomes.{Lent, Outcome, refused, given, again}
+use Rattle.rules.specs.Outcomes.{Lent, refused, given, again}
 use Rattle.rules.specs.Table.{moved}
 use Rattle.rules.specs.Rows.{is-absent, row-number, sought, present-tail, present-height, receipt-of}
 use Rattle.rules.specs.Initialise.{is-in-rack, initialising}
@@ -73,18 +72,18 @@ pub record Numbers-to-try : Type 0 where
   -- "height 0, expected 2: 11 with 0; expected 1: accepted at height 1"
   pub one-too-high : (k : Lent) (label entry : List ℕ) → Stands k label 0 → appending k label entry 2 ≡ refused 11 0 k
   pub first-entry :
-    (k : Lent) (label entry : List ℕ) → Stands k label 0
-    → appending k label entry 1
-    ≡ given (statement-written (receipt-of (k .head) (Append 1) label (appended (present-tail k label) entry))) (k .head)
+      (k : Lent) (label entry : List ℕ) → Stands k label 0
+      → appending k label entry 1
+      ≡ given (statement-written (receipt-of (k .head) (Append 1) label (appended (present-tail k label) entry))) (k .head)
       (moved (k .table) (row-number (sought k label)) (appended (present-tail k label) entry) 1) (k .area)
   -- "height 4,294,967,295: expected 4,294,967,296 gives 12, expected 5 gives 11"
   pub above-the-top : (k : Lent) (label entry : List ℕ) → Stands k label 4294967295 → appending k label entry 4294967296 ≡ refused 12 0 k
   pub far-below : (k : Lent) (label entry : List ℕ) → Stands k label 4294967295 → appending k label entry 5 ≡ refused 11 4294967295 k
   -- "second finalise naming another rack: the first statement again"
   pub second-finalise :
-    (k : Lent) (next other area : List ℕ) → Ready active finalise-size k → holds rack-layout next ≡ true → finalise-size ≤ length area
-    → (finalising k next ≡ given (last-words (handed-over (k .head) next) (k .table)) (handed-over (k .head) next) (k .table) (k .area))
-    × (finalising (record { head = handed-over (k .head) next; table = k .table; area = area }) other
+      (k : Lent) (next other area : List ℕ) → Ready active finalise-size k → holds rack-layout next ≡ true → finalise-size ≤ length area
+      → (finalising k next ≡ given (last-words (handed-over (k .head) next) (k .table)) (handed-over (k .head) next) (k .table) (k .area))
+      × (finalising (record { head = handed-over (k .head) next; table = k .table; area = area }) other
       ≡ again (last-words (handed-over (k .head) next) (k .table)) (record { head = handed-over (k .head) next; table = k .table; area = area }))
   -- "rack of 3, signer positions 1, 1: 22; one valid signer: 16; two: accepted"
   pub same-signer-twice : (q : Question) (s : List ℕ) (m n : ℕ) → Asked q s → verdict-refusal q s (1 ∷ m ∷ 1 ∷ n ∷ []) ≡ 22
@@ -92,9 +91,9 @@ pub record Numbers-to-try : Type 0 where
   pub two-signers : (q : Question) (s : List ℕ) (p r : ℕ) → Asked q s → p < r → r < 3 → verdict-refusal q s (p ∷ 3 ∷ r ∷ 3 ∷ []) ≡ 0
   -- "roll without previous rack: 8"
   pub roll-alone :
-    (k : Lent) (identity roll own : List ℕ) → Ready blank handover-size k → holds rack-layout own ≡ true → is-in-rack (k .head .key) own ≡ true
-    → 1 ≤ length roll → initialising k identity roll [] own ≡ refused 8 0 k
+      (k : Lent) (identity roll own : List ℕ) → Ready blank handover-size k → holds rack-layout own ≡ true → is-in-rack (k .head .key) own ≡ true
+      → 1 ≤ length roll → initialising k identity roll [] own ≡ refused 8 0 k
   -- "an old roll lacking one of our ledgers: 20"
   pub lacking-one :
-    (k : Lent) (previous own s : List ℕ) (i r : ℕ) → Offered k previous own s → i < old-count s → r < k .head .count
-    → is-absent (row-in (roll-of s i) (own-roll k) r) ≡ true → activating k previous own s ≡ refused 20 0 k
+      (k : Lent) (previous own s : List ℕ) (i r : ℕ) → Offered k previous own s → i < old-count s → r < k .head .count
+      → is-absent (row-in (roll-of s i) (own-roll k) r) ≡ true → activating k previous own s ≡ refused 20 0 k

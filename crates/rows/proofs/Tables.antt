@@ -1,5 +1,5 @@
 -- Laws of a table: a test of each row in turn, and the order of the labels. Assumes nothing.
-use mathlib.Core.Path.{_≡_, refl}
+use mathlib.Core.Path.{_≡_, refl, sym, _∙_}
 use mathlib.Core.Bool.{Bool, true, false, _&&_}
 use mathlib.Core.List.{List}
 use Prim.Native.Nat.{ℕ, zero, suc, _+_, _-_, _*_, _<_, _≤_}
@@ -35,6 +35,14 @@ module _ (test : ℕ → Bool) where
       go : (i < n → each test n ≡ false) → Dec (i < n) → (each test n && test n) ≡ false
       go earlier (yes l) = rw (earlier l)
       go earlier (no g) = let e : i ≡ n = omega arith in and-false (each test n) (rw e at k)
+
+  -- what holds of each number below n holds of one
+  pub each-of : (n i : ℕ) → i < n → each test n ≡ true → test i ≡ true
+  each-of n i h e = go (test i) refl
+    where
+      go : (b : Bool) → test i ≡ b → test i ≡ true
+      go true p = p
+      go false p = let z : _≡_ {A = Bool} true false = sym e ∙ each-fails n i h p in cc
 
 pub rises-after : (rows : List ℕ) (i : ℕ) → (i ≡ 0 → ⊥) → before (label-of rows (i - 1)) (label-of rows i) ≡ rises rows i
 unfolding rises

@@ -7,8 +7,8 @@ use lib.Dec.{ltb}
 use Rattle.refusals.specs.{not-prepared, rack-broken, digest-differs, list-broken, roll-broken, too-few, signature-not-valid, initialise-not-valid, not-derived}
 use Rattle.refusals.specs.Order.{Test, _⇒_, first}
 use Rattle.octets.specs.Strings.{same}
-use Rattle.octets.specs.Layouts.{Layout, holds}
-use Rattle.rack.specs.Racks.{Rack, rack-layout, rack-cut, rack-digest, majority}
+use Rattle.octets.specs.Layouts.{holds}
+use Rattle.rack.specs.Racks.{rack-layout, rack-cut, rack-digest, majority}
 use Rattle.marks.specs.Entries.{marks-tests, pair-marks}
 use Rattle.rows.specs.Table.{each}
 use Rattle.roll.specs.Roll.{Roll, roll-layout}

@@ -6,7 +6,6 @@ use Prim.Native.Nat.{ℕ, zero, suc, _+_, _*_}
 use lib.ListN.{take, drop}
 use lib.Dec.{eqb}
 use Rattle.octets.specs.Strings.{same}
-use Rattle.octets.specs.Layouts.{Layout}
 use Rattle.rows.specs.declared.Found.{Found}
 use Rattle.rows.specs.Row.{label-of, tail-of, height-of}
 use Rattle.rows.specs.Table.{each}

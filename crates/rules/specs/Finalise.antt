@@ -6,12 +6,11 @@ use Prim.Native.Nat.{ℕ}
 use lib.Dec.{eqb}
 use Rattle.refusals.specs.{not-active, rack-broken}
 use Rattle.refusals.specs.Order.{_⇒_, first}
-use Rattle.octets.specs.Layouts.{Layout, holds}
+use Rattle.octets.specs.Layouts.{holds}
 use Rattle.rack.specs.Racks.{rack-layout, rack-digest}
 use Rattle.rows.specs.Digests.{roll-digest}
 use Rattle.roll.specs.Roll.{roll-layout}
 use Rattle.statement.specs.declared.Kind.the-variants.{Finalise}
-use Rattle.statement.specs.declared.Statement.{Statement}
 use Rattle.statement.specs.Contents.{statement-written}
 use Rattle.statement.specs.Cut.{no-digest, no-label}
 use Rattle.rules.specs.declared.Head.{Head}

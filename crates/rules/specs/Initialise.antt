@@ -8,12 +8,11 @@ use lib.ListN.{length, take}
 use lib.Dec.{eqb}
 use Rattle.refusals.specs.{not-blank, rack-broken, key-not-in-rack, roll-or-rack-alone, roll-broken}
 use Rattle.refusals.specs.Order.{_⇒_, first}
-use Rattle.octets.specs.Layouts.{Layout, holds}
-use Rattle.rack.specs.Racks.{Rack, rack-layout, rack-digest, rack-cut, is-among}
+use Rattle.octets.specs.Layouts.{holds}
+use Rattle.rack.specs.Racks.{rack-layout, rack-digest, rack-cut, is-among}
 use Rattle.rows.specs.Digests.{roll-digest}
-use Rattle.roll.specs.Roll.{Roll, roll-layout}
+use Rattle.roll.specs.Roll.{roll-layout}
 use Rattle.statement.specs.declared.Kind.the-variants.{Initialise}
-use Rattle.statement.specs.declared.Statement.{Statement}
 use Rattle.statement.specs.Kinds.{handover-size}
 use Rattle.statement.specs.Contents.{statement-written}
 use Rattle.statement.specs.Cut.{no-digest, no-label}

@@ -1,5 +1,5 @@
 -- What a call is lent, what it leaves and what it answers. 01, "Calls, with the order of their refusals".
-use mathlib.Core.Bool.{Bool, true, false, not, cond}
+use mathlib.Core.Bool.{true, false, not, cond}
 use mathlib.Core.List.{List, [], _∷_, _++_}
 use Prim.Native.Nat.{ℕ}
 use lib.ListN.{length}

@@ -1,0 +1,175 @@
+-- The cases of 01's "Numbers to try" that are marked P, under one claim. Assumes nothing.
+use mathlib.Core.Path.{_≡_, refl, sym, ap, _∙_}
+use mathlib.Core.Bool.{true, false, not, cond, _||_}
+use mathlib.Core.List.{List, [], _∷_, _++_, append-assoc}
+use Prim.Native.Nat.{ℕ, _+_, _<_, _≤_}
+use native.Mathlib.Omega.{arith}
+use borrow.Author.Tests.{ne-eqb, le-ltb, eqb-false}
+use lib.ListN.{length}
+use lib.Dec.{eqb, ltb}
+use Rattle.refusals.specs.{accepted, not-active, not-blank, too-few, signature-not-valid, initialise-not-valid, not-derived}
+use Rattle.refusals.specs.Order.{_⇒_, first}
+use Rattle.refusals.proofs.Orders.{numbered, goes-on, refuses, lets-by}
+use Rattle.octets.specs.Strings.{all-zero}
+use Rattle.octets.specs.Layouts.{holds}
+use Rattle.marks.specs.Entries.{marks-tests, pair-marks}
+use Rattle.marks.proofs.Refused.{marks-numbered}
+use Rattle.rack.specs.Racks.{rack-layout, majority}
+use Rattle.rack.proofs.NumbersToTry.{majorities, none-is-broken, sixteen-is-broken, fifteen}
+use Rattle.rows.proofs.Tables.{and-false, each-fails}
+use Rattle.roll.specs.Roll.{Roll}
+use Rattle.roll.proofs.NumbersToTry.{blocks-tried}
+use Rattle.rows.specs.Digests.{appended}
+use Rattle.statement.specs.declared.Kind.the-variants.{Append}
+use Rattle.statement.specs.Contents.{statement-written}
+use Rattle.statement.specs.Kinds.{receipt-size, handover-size}
+use Rattle.rules.specs.declared.Head.{Head}
+use Rattle.rules.specs.Record.{blank, active, sound}
+use Rattle.rules.specs.Outcomes.{Lent, refused, given, again, unless, lending, readiness}
+use Rattle.rules.specs.Table.{moved}
+use Rattle.rules.specs.Rows.{is-absent, row-number, sought, present-tail, present-height, receipt-of}
+use Rattle.rules.specs.Initialise.{is-in-rack, initialise-refusal, initialising}
+use Rattle.rules.specs.New.{new-refusal, making}
+use Rattle.rules.specs.Append.{append-refusal, moved-on, append-statement, appending}
+use Rattle.rules.specs.Finalise.{finalise-size, last-words, handed-over, finalise-refusal, leaving, finalising}
+use Rattle.rules.specs.Bundle.{old-count, old-marks, new-count, new-entries, added, digests, list-of}
+use Rattle.rules.specs.Derivation.{row-in, no-more, row-derived, roll-of, roll-derived, derived}
+use Rattle.rules.specs.Activate.{rack-size, own-roll, bundle-tests, handover-tests, activating}
+use Rattle.rules.proofs.FoundRows.{row-found, row-labelled}
+use Rattle.record.proofs.Firsts.{sound-rows}
+use Rattle.numbers.specs.Cases.{Ready, Stands, Offered, Numbers-to-try}
+use Rattle.numbers.proofs.Prepared.{lent-by, status-refuses, ready-by, comes-to, has-effect}
+use Rattle.numbers.proofs.Signers.{twice, one, two}
+
+append-on-blank : (k : Lent) (label entry : List ℕ) (expected : ℕ) → Ready blank receipt-size k → appending k label entry expected ≡ refused 4 0 k
+unfolding appending append-refusal refused
+append-on-blank k label entry expected r =
+    comes-to _ 4 (present-height k label) k _
+    (status-refuses receipt-size k (r .room) (r .sounds) active not-active _ (λ e. eqb-false 0 2 refl (sym (r .has-status) ∙ e))) refl
+
+-- a label that is found is not all zero
+module _ (k : Lent) (label : List ℕ) (height : ℕ) (a : Stands k label height) where
+  named : all-zero label ≡ false
+  named =
+      let fit = sound-rows (k .head) (k .table) (a .ready .sounds) in
+      row-labelled label (present-tail k label) (present-height k label) (row-found (k .head .count) (k .table) label fit (a .known) .1)
+
+  new-of-existing : making k label ≡ refused 9 0 k
+  unfolding making new-refusal refused first
+  new-of-existing =
+      let r = a .ready in
+      comes-to _ 9 0 k _
+      (ready-by receipt-size k (r .room) (r .sounds) active not-active _ (r .has-status) ∙ rw (named, a .known)) refl
+
+module _ (k : Lent) (label entry : List ℕ) where
+  -- an append at an active keeper that has the ledger, by the two tests that are left
+  tried :
+      (height expected : ℕ) → Stands k label height
+      → append-refusal receipt-size k label expected ≡ cond (not (eqb expected (height + 1))) 11 (cond (eqb height 4294967295) 12 0)
+  unfolding append-refusal first
+  tried height expected a =
+      let r = a .ready in
+      ready-by receipt-size k (r .room) (r .sounds) active not-active _ (r .has-status) ∙ rw (a .known, a .height-is)
+
+  one-too-high : Stands k label 0 → appending k label entry 2 ≡ refused 11 0 k
+  unfolding appending refused
+  one-too-high a = comes-to _ 11 (present-height k label) k _ (tried 0 2 a) refl ∙ rw (a .height-is)
+
+  above-the-top : Stands k label 4294967295 → appending k label entry 4294967296 ≡ refused 12 0 k
+  unfolding appending refused
+  above-the-top a = comes-to _ 12 (present-height k label) k _ (tried 4294967295 4294967296 a) refl
+
+  far-below : Stands k label 4294967295 → appending k label entry 5 ≡ refused 11 4294967295 k
+  unfolding appending refused
+  far-below a = comes-to _ 11 (present-height k label) k _ (tried 4294967295 5 a) refl ∙ rw (a .height-is)
+
+  first-entry :
+      Stands k label 0
+      → appending k label entry 1
+      ≡ given (statement-written (receipt-of (k .head) (Append 1) label (appended (present-tail k label) entry))) (k .head)
+      (moved (k .table) (row-number (sought k label)) (appended (present-tail k label) entry) 1) (k .area)
+  unfolding appending append-statement moved-on
+  first-entry a = has-effect _ (present-height k label) k _ (tried 0 1 a) ∙ rw (a .height-is)
+
+-- a record stays sound when its keeper hands over
+still-sound : (h : Head) (table next : List ℕ) → sound h table ≡ true → sound (handed-over h next) table ≡ true
+unfolding sound
+still-sound h table next e = sound-rows h table e
+
+-- of the two calls the second has the first one's record, and other arguments
+second-finalise :
+    (k : Lent) (next other area : List ℕ) → Ready active finalise-size k → holds rack-layout next ≡ true → finalise-size ≤ length area
+    → (finalising k next ≡ given (last-words (handed-over (k .head) next) (k .table)) (handed-over (k .head) next) (k .table) (k .area))
+    × (finalising (record { head = handed-over (k .head) next; table = k .table; area = area }) other
+    ≡ again (last-words (handed-over (k .head) next) (k .table)) (record { head = handed-over (k .head) next; table = k .table; area = area }))
+unfolding finalising leaving finalise-refusal first unless
+second-finalise k next other area r h room =
+    let k' : Lent = record { head = handed-over (k .head) next; table = k .table; area = area } in (
+      rw (lent-by finalise-size k (r .room) (r .sounds), r .has-status, h),
+      rw (lent-by finalise-size k' room (still-sound (k .head) (k .table) next (r .sounds))),
+    )
+
+roll-alone :
+    (k : Lent) (identity roll own : List ℕ) → Ready blank handover-size k → holds rack-layout own ≡ true → is-in-rack (k .head .key) own ≡ true
+    → 1 ≤ length roll → initialising k identity roll [] own ≡ refused 8 0 k
+unfolding initialising initialise-refusal first
+roll-alone k identity roll own r h member some =
+    comes-to _ 8 0 k _
+    (ready-by handover-size k (r .room) (r .sounds) blank not-blank _ (r .has-status) ∙ rw (h, member, ne-eqb (length roll) 0 (omega arith))) refl
+
+-- one row that an old roll lacks decides
+underived : (ours : Roll) (s : List ℕ) (i r : ℕ) → i < old-count s → r < ours .count → is-absent (row-in (roll-of s i) ours r) ≡ true → derived ours s ≡ false
+unfolding derived roll-derived row-derived
+underived ours s i r h l a =
+    let j : ℕ = list-of (ours .count) i r in
+    let row : row-derived ours (roll-of s i) r (digests s j) (added s j) ≡ false = rw a in
+    let roll : roll-derived ours s i ≡ false = and-false (no-more ours (roll-of s i)) (each-fails _ (ours .count) r l row) in
+    rw (each-fails (roll-derived ours s) (old-count s) i h roll)
+
+module _ (k : Lent) (previous own s : List ℕ) (o : Offered k previous own s) where
+  enough : (ltb (old-count s) (majority (rack-size previous)) || ltb (new-count s) (majority (rack-size own))) ≡ false
+  enough =
+      rw (le-ltb (old-count s) (majority (rack-size previous)) (o .old-many), le-ltb (new-count s) (majority (rack-size own)) (o .new-many))
+
+  -- up to the derivation nothing refuses
+  marked : first (handover-tests k previous own s) ≡ first ((not (derived (own-roll k) s) ⇒ not-derived) ∷ [])
+  unfolding handover-tests
+  marked =
+      let olds = marks-tests signature-not-valid (old-marks s) (old-count s) in
+      let news = marks-tests initialise-not-valid (pair-marks (new-entries s)) (new-count s) in
+      let last = (not (derived (own-roll k) s) ⇒ not-derived) ∷ [] in
+      lets-by _ too-few _ enough ∙ ap first (append-assoc olds news last)
+      ∙ goes-on olds (news ++ last) accepted (marks-numbered signature-not-valid (omega arith) (old-marks s) (old-count s)) (sym (o .old-marked)) refl
+      ∙ goes-on news last accepted (marks-numbered initialise-not-valid (omega arith) (pair-marks (new-entries s)) (new-count s)) (sym (o .new-marked)) refl
+
+  lacking-one :
+      (i r : ℕ) → i < old-count s → r < k .head .count → is-absent (row-in (roll-of s i) (own-roll k) r) ≡ true
+      → activating k previous own s ≡ refused 20 0 k
+  unfolding activating bundle-tests readiness lending numbered
+  lacking-one i r h l a =
+      comes-to _ 20 0 k _
+      (goes-on (bundle-tests 0 k previous own s) (handover-tests k previous own s) accepted refl (sym (o .passes)) refl
+      ∙ marked ∙ refuses _ not-derived [] (ap not (underived (own-roll k) s i r h l a))) refl
+
+pub tried-all : Numbers-to-try
+tried-all =
+    record {
+      majorities = majorities;
+      blocks-of = blocks-tried;
+      rack-of-none = none-is-broken;
+      rack-of-sixteen = sixteen-is-broken;
+      rack-of-fifteen = fifteen;
+      append-on-blank = append-on-blank;
+      new-of-existing = new-of-existing;
+      new-of-existing-of-63 = λ k label height a full. new-of-existing k label height a;
+      one-too-high = one-too-high;
+      first-entry = first-entry;
+      above-the-top = above-the-top;
+      far-below = far-below;
+      second-finalise = second-finalise;
+      same-signer-twice = λ q s m n a. twice q s a m n;
+      one-signer = λ q s p a. one q s a p;
+      two-signers = λ q s p r a. two q s a p r;
+      roll-alone = roll-alone;
+      lacking-one = λ k previous own s i r o. lacking-one k previous own s o i r;
+    }
