@@ -1,3 +1,4 @@
 -- The laws that Finalise's proofs cite.
 pub mod Leaves
+pub mod Outcomes
 pub mod Said

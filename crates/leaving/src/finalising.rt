@@ -15,7 +15,7 @@ ghost use mathlib.Core.Bool.{true};
 ghost use mathlib.Core.List.{[]};
 ghost use Rattle.octets.specs.Layouts.{holds};
 ghost use Rattle.rack.specs.Racks.{rack-layout};
-ghost use Rattle.rules.specs.Outcomes.{Lent, outcome};
+ghost use Rattle.rules.specs.Outcomes.{outcome};
 ghost use Rattle.rules.specs.Finalise.{handed-over, finalise-refusal, finalising};
 
 // The bytes of a finalise statement and seven blocks.
