@@ -10,14 +10,13 @@ use Rattle.refusals.specs.{accepted, not-blank, rack-broken, key-not-in-rack, r
 use Rattle.refusals.specs.Order.{first}
 use Rattle.refusals.proofs.Orders.{numbered, stops, goes-on, passes}
 use Rattle.octets.specs.Strings.{all-zero}
-use Rattle.octets.specs.Layouts.{Layout, holds, read}
+use Rattle.octets.specs.Layouts.{holds, read}
 use Rattle.octets.proofs.RoundTrips.{holds-fits}
 use Rattle.rack.specs.Racks.{most, rack-bytes, rack-layout, rack-digest}
 use Rattle.rack.proofs.RackTrips.{rack-whole}
 use Rattle.rows.specs.Sizes.{table-bytes}
-use Rattle.rows.specs.Table.{rows-fit}
 use Rattle.rows.proofs.Tables.{fit-length}
-use Rattle.roll.specs.Roll.{Roll, roll-layout, Reading, outcome, reading-roll}
+use Rattle.roll.specs.Roll.{roll-layout, outcome, reading-roll}
 use Rattle.statement.specs.Kinds.{handover-size}
 use Rattle.statement.specs.Contents.{handover-fits, fits-as, statement-fits}
 use Rattle.rules.specs.declared.Head.{Head}

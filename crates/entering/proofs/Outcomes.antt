@@ -1,7 +1,5 @@
 -- Initialise's contract allows one outcome: two that it allows for the same arguments have the same result, and leave the same in what is lent. Assumes nothing.
-use mathlib.Core.Path.{_≡_, sym, _∙_}
-use mathlib.Core.List.{List}
-use Prim.Native.Nat.{ℕ}
+use mathlib.Core.Path.{sym, _∙_}
 use denote.Ref.{now}
 use Rattle.rack.proofs.Outcomes.{One}
 use Rattle.rules.specs.Outcomes.{Outcome, outcome}

@@ -6,11 +6,11 @@ use Prim.Native.Nat.{ℕ, _≤_}
 use lib.ListN.{length}
 use Rattle.refusals.specs.{rack-broken, key-not-in-rack, roll-or-rack-alone, roll-broken}
 use Rattle.refusals.specs.Order.{Test, _⇒_}
-use Rattle.octets.specs.Layouts.{Layout, holds}
+use Rattle.octets.specs.Layouts.{holds}
 use Rattle.rack.specs.Racks.{rack-layout}
 use Rattle.rows.specs.Sizes.{table-bytes}
 use Rattle.rows.specs.Digests.{roll-digest}
-use Rattle.roll.specs.Roll.{Roll, roll-layout}
+use Rattle.roll.specs.Roll.{roll-layout}
 use Rattle.statement.specs.declared.Kind.the-variants.{Initialise}
 use Rattle.statement.specs.declared.Statement.{Statement}
 use Rattle.statement.specs.Kinds.{handover-size}

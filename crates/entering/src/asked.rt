@@ -15,7 +15,6 @@ ghost use Rattle.refusals.specs.Order.{first};
 ghost use Rattle.octets.specs.Layouts.{holds};
 ghost use Rattle.rack.specs.Racks.{rack-layout};
 ghost use Rattle.roll.specs.Roll.{roll-layout};
-ghost use Rattle.rules.specs.Outcomes.{Lent};
 ghost use Rattle.rules.specs.Initialise.{is-in-rack, initialise-refusal};
 ghost use Rattle.entering.specs.Parts.{own-tests, old-tests};
 

@@ -16,7 +16,7 @@ ghost use mathlib.Core.Path.{_≡_};
 ghost use Prim.Native.Nat.{_≤_};
 ghost use lib.ListN.{length};
 ghost use Rattle.statement.specs.Kinds.{handover-size};
-ghost use Rattle.rules.specs.Outcomes.{Lent, outcome};
+ghost use Rattle.rules.specs.Outcomes.{outcome};
 ghost use Rattle.rules.specs.Initialise.{entered, initialising};
 ghost use Rattle.entering.specs.Parts.{Takeable, taking-over};
 

@@ -7,10 +7,9 @@ use denote.Ref.{now}
 use borrow.Author.Needs.{needs}
 use lib.ListN.{length}
 use Rattle.refusals.specs.{accepted}
-use Rattle.octets.specs.Layouts.{Layout}
 use Rattle.octets.proofs.Puts.{put-all}
 use Rattle.rows.specs.Sizes.{table-bytes}
-use Rattle.roll.specs.Roll.{Roll, roll-layout, Reading}
+use Rattle.roll.specs.Roll.{roll-layout, Reading}
 use Rattle.rules.specs.declared.Head.{Head}
 use Rattle.rules.specs.Outcomes.{given}
 use Rattle.rules.specs.Initialise.{initialise-statement, preparing, entered}

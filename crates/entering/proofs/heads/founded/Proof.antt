@@ -5,7 +5,6 @@ use Prim.Native.Nat.{ℕ}
 use denote.Ref.{now}
 use borrow.Author.Needs.{needs}
 use Rattle.statement.specs.Cut.{no-digest}
-use Rattle.rules.specs.declared.Head.{Head}
 use Rattle.rules.specs.Record.{active}
 use Rattle.entering.proofs.Enters.{digested}
 use Rattle.entering.proofs.heads.founded.Statement.{statement}

@@ -4,7 +4,6 @@ use mathlib.Core.List.{List}
 use Prim.Native.Nat.{ℕ}
 use borrow.Author.Needs.{needs}
 use Rattle.statement.specs.declared.Kind.the-variants.{Initialise}
-use Rattle.statement.specs.declared.Statement.{Statement}
 use Rattle.statement.specs.Cut.{no-digest, no-label}
 use Rattle.entering.proofs.heads.spoken.Statement.{statement}
 use Rattle.entering.proofs.heads.spoken.Tie as tie
