@@ -40,7 +40,8 @@ fn take_over(
     area: &mut [u8],
 ) -> Told
     requires { ⌜ Takeable (record { head = head; table = now table; area = now area }) (now roll) (now previous) (now own) ⌝ }
-    ensures { λ r. ⌜ outcome r (now (table .exit)) (now (area .exit)) ≡ taking-over (record { head = head; table = now (table .entry); area = now (area .entry) }) identity (now (roll .entry)) (now (previous .entry)) (now (own .entry)) ⌝ }
+    ensures { λ r. ⌜ outcome r (now (table .exit)) (now (area .exit))
+        ≡ taking-over (record { head = head; table = now (table .entry); area = now (area .entry) }) identity (now (roll .entry)) (now (previous .entry)) (now (own .entry)) ⌝ }
 {
     let mut rows = [0u8; TABLE];
     let counted = read_roll(roll, &mut rows);
@@ -59,7 +60,8 @@ pub fn initialise(
     own: &[u8],
     area: &mut [u8],
 ) -> Told
-    ensures { λ r. ⌜ outcome r (now (table .exit)) (now (area .exit)) ≡ initialising (record { head = head; table = now (table .entry); area = now (area .entry) }) identity (now (roll .entry)) (now (previous .entry)) (now (own .entry)) ⌝ }
+    ensures { λ r. ⌜ outcome r (now (table .exit)) (now (area .exit))
+        ≡ initialising (record { head = head; table = now (table .entry); area = now (area .entry) }) identity (now (roll .entry)) (now (previous .entry)) (now (own .entry)) ⌝ }
 {
     let n = refusal_of_initialise(head, table, roll, previous, own, area);
     if n != refusals::ACCEPTED {
