@@ -49,6 +49,14 @@ pub roll-long : (s : List ℕ) → holds roll-layout s ≡ true → length (roll
 unfolding roll-layout
 roll-long s h = fit-length (roll-layout .cut s .count) (roll-layout .cut s .rows) (holds-fits roll-layout s h)
 
+-- a roll and a previous rack of which neither is alone
+module _ (roll previous : List ℕ) (e : cond (absent roll) (not (absent previous)) (absent previous) ≡ false) where
+  pub neither : absent roll ≡ true → absent previous ≡ true
+  neither none = not-false (absent previous) (rw none at e)
+
+  pub both : absent roll ≡ false → absent previous ≡ false
+  both some = rw some at e
+
 -- the statement of any head fits
 pub spoken-fits : (h : Head) (table : List ℕ) → statement-fits (spoken h table) ≡ true
 unfolding all-zero handover-fits fits-as statement-fits
@@ -101,7 +109,7 @@ takeable k roll previous own m there =
     let a = passes (cond (absent roll) (not (absent previous)) (absent previous)) roll-or-rack-alone _ (eqb-false 8 0 refl) (m .old) in
     let b = passes (not (absent previous) && not (holds rack-layout previous)) rack-broken _ (eqb-false 6 0 refl) (a .1) in
     let d = passes (not (absent roll) && not (holds roll-layout roll)) roll-broken _ (eqb-false 15 0 refl) (b .1) in
-    let too : absent previous ≡ false = rw there at (a .0) in
+    let too : absent previous ≡ false = both roll previous (a .0) there in
     record {
       room = m .room;
       long = m .long;

@@ -10,12 +10,12 @@ use roll::read_roll;
 use rows::TABLE;
 use rules::Head;
 ghost use mathlib.Core.Path.{_≡_};
-ghost use mathlib.Core.Bool.{true};
+ghost use mathlib.Core.Bool.{true, not, cond};
 ghost use Rattle.refusals.specs.Order.{first};
 ghost use Rattle.octets.specs.Layouts.{holds};
 ghost use Rattle.rack.specs.Racks.{rack-layout};
 ghost use Rattle.roll.specs.Roll.{roll-layout};
-ghost use Rattle.rules.specs.Initialise.{is-in-rack, initialise-refusal};
+ghost use Rattle.rules.specs.Initialise.{absent, is-in-rack, initialise-refusal};
 ghost use Rattle.entering.specs.Parts.{own-tests, old-tests};
 
 // The bytes of the initialise statement.
@@ -53,18 +53,25 @@ fn refusal_of_own(key: [u8; 32], own: &[u8]) -> u32
     refusals::ACCEPTED
 }
 
+// Whether one of a roll and a previous rack is given without the other.
+fn is_alone(roll: &[u8], previous: &[u8]) -> bool
+    ensures { λ r. ⌜ r ≡ cond (absent (now (roll .entry))) (not (absent (now (previous .entry)))) (absent (now (previous .entry))) ⌝ }
+{
+    if roll.len() == 0 {
+        return previous.len() != 0;
+    }
+    previous.len() == 0
+}
+
 // The first refusal of the roll and the previous rack, or 0.
 fn refusal_of_old(roll: &[u8], previous: &[u8]) -> u32
     ensures { λ r. ⌜ r ≡ first (old-tests (now (roll .entry)) (now (previous .entry))) ⌝ }
 {
-    if roll.len() == 0 {
-        if previous.len() == 0 {
-            return refusals::ACCEPTED;
-        }
+    if is_alone(roll, previous) {
         return refusals::ROLL_OR_RACK_ALONE;
     }
-    if previous.len() == 0 {
-        return refusals::ROLL_OR_RACK_ALONE;
+    if roll.len() == 0 {
+        return refusals::ACCEPTED;
     }
     if !is_rack(previous) {
         return refusals::RACK_BROKEN;
