@@ -1,0 +1,2 @@
+-- The parts of Initialise's rule.
+pub mod Parts
