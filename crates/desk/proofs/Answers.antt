@@ -5,7 +5,6 @@ use mathlib.Core.List.{List}
 use Prim.Native.Nat.{ℕ}
 use Rattle.refusals.specs.{accepted}
 use Rattle.octets.specs.Layouts.{holds}
-use Rattle.statement.specs.declared.Statement.{Statement}
 use Rattle.statement.specs.declared.Reading.{Reading}
 use Rattle.statement.specs.Cut.{cut-statement}
 use Rattle.statement.specs.Layout.{statement-layout, reading}

@@ -1,5 +1,5 @@
 -- The verdict's contract allows one outcome: two findings that it allows for the same arguments are equal. Assumes nothing.
-use mathlib.Core.Path.{_≡_, sym, _∙_}
+use mathlib.Core.Path.{sym, _∙_}
 use Rattle.rack.proofs.Outcomes.{One}
 use Rattle.desk.specs.declared.Finding.{Finding}
 use Rattle.desk.proofs.judging.verdict.Kinds as verdict

@@ -1,5 +1,5 @@
 -- `desk::judging::verdict` meets its contract. Assumes nothing.
-use mathlib.Core.Path.{_≡_, sym, ap, ap₂, _∙_}
+use mathlib.Core.Path.{_≡_, sym, ap₂, _∙_}
 use mathlib.Core.Bool.{true}
 use Prim.Native.Nat.{ℕ}
 use denote.Ref.{now}
