@@ -1,4 +1,8 @@
 // The desk's verdict: whether a rack's signers vouch for a ledger's tail and height.
+mod asking;
+mod judging;
+
+pub use judging::verdict;
 
 // What the desk may show: 0 with the tail and the height, or a refusal and zeros.
 pub struct Finding {
