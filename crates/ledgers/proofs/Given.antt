@@ -1,14 +1,18 @@
 -- Laws of what the calls on ledgers give: receipts that fit, and the outcome of a refusal and of an acceptance. Assumes nothing.
-use mathlib.Core.Path.{_≡_, subst}
+use mathlib.Core.Path.{_≡_, sym, ap, _∙_, subst}
 use mathlib.Core.Bool.{true}
-use mathlib.Core.List.{List}
-use Prim.Native.Nat.{ℕ, _+_}
+use mathlib.Core.List.{List, [], _++_, append-nil, append-assoc}
+use Prim.Native.Nat.{ℕ, _+_, _-_}
+use native.Mathlib.Nat.{zero-add}
 use native.Mathlib.Omega.{arith}
 use borrow.Author.Tests.{eq-eqb, ne-eqb, le-leb}
-use lib.ListN.{length}
+use borrow.Rule.Slice.PartMut.{putMid}
+use lib.ListN.{length, take, drop, length-drop, drop-of-length-le}
+use lib.Seq.{drop-drop}
 use Rattle.refusals.specs.{accepted}
 use Rattle.octets.specs.Strings.{put, all-zero}
 use Rattle.rows.specs.Row.{tail-of, height-of, row-holds}
+use Rattle.rows.proofs.Tables.{rest-part}
 use Rattle.rows.specs.Digests.{appended}
 use Rattle.statement.specs.declared.Kind.{Kind}
 use Rattle.statement.specs.declared.Statement.{Statement}
@@ -45,6 +49,22 @@ moved-receipt k label entry kind v i height tail e t h p = rw (e, t, h, p)
 -- the bytes of a statement that was made and fits
 pub made-length : (u v : Statement) → u ≡ v → Arrays u → statement-fits v ≡ true → length (statement-written v) ≡ size (v .kind)
 made-length u v e a fits = written-length v (subst Arrays e a) (fits-kind v fits)
+
+-- the number of a told refusal
+module _ (n height : ℕ) (h : Head) (r : Told) (e : r ≡ record { answer = refusing n height; head = h }) where
+  pub told-none : r .answer .number ≡ accepted → n ≡ accepted
+  told-none z = sym (ap (λ (t : Told). t .answer .number) e) ∙ z
+
+  pub told-one : (r .answer .number ≡ accepted → ⊥) → n ≡ accepted → ⊥
+  told-one z p = z (ap (λ (t : Told). t .answer .number) e ∙ p)
+
+-- a string put at the front of the rest of another is put there behind what stands before the rest
+pub rest-put :
+    (d : List ℕ) (at : ℕ) (s : List ℕ) → putMid at (length d - at) d (put (take (length d - at) (drop at d)) 0 s) ≡ put d at s
+unfolding put
+rest-put d at s =
+    let none : drop (length d - at) (drop at d) ≡ [] = drop-of-length-le (drop at d) {i = length d - at} (omega (arith, length-drop at d)) in
+    rw (none, rest-part d at, zero-add (length s), drop-drop (length s) at d, append-nil (s ++ drop (at + length s) d)) (sym (append-assoc (take at d) s (drop (at + length s) d)))
 
 module _ (k : Lent) (n height : ℕ) (r : Told) where
   pub refuses :

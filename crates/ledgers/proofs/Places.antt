@@ -1,4 +1,4 @@
--- What a call may count on whose ledger is found, and the row that it has. Assumes nothing.
+-- Laws of a ledger that is found: the row that it has, and what is known where nothing refuses. Assumes nothing.
 use mathlib.Core.Path.{_≡_, refl, sym, _∙_}
 use mathlib.Core.Bool.{Bool, true, false, not, cond, _&&_}
 use mathlib.Core.List.{List, []}
@@ -25,6 +25,7 @@ use Rattle.rules.specs.Outcomes.{Lent, lending, readiness}
 use Rattle.rules.specs.Rows.{is-absent, row-number, sought, present-tail, present-height}
 use Rattle.rules.specs.Append.{append-refusal}
 use Rattle.record.proofs.Firsts.{ready, sound-rows}
+use Rattle.ledgers.specs.Known.{Findable, Appendable}
 use Rattle.ledgers.proofs.Actives.{found, ordered}
 
 -- what holds of each number below n holds of one
@@ -52,13 +53,6 @@ row-found count rows label fit there = go (find count rows label) refl there
         let r = found-is count rows label i fit p in
         (r .0, rw (r .1) at (stands-row rows i (each-of (stands rows) count i (r .0) (fit-stands count rows fit))))
     go Absent p e = let z : _≡_ {A = ℕ} 0 1 = cc in absurd (omega arith)
-
--- what is known once the ledger is found
-pub record Findable (size : ℕ) (k : Lent) (label : List ℕ) : Type 0 where
-  pub room : size ≤ length (k .area)
-  pub long : length (k .table) ≡ table-bytes
-  pub place : row-number (sought k label) < most-rows
-  pub holds : row-holds label (present-tail k label) (present-height k label) ≡ true
 
 pub findable : (size : ℕ) (k : Lent) (label : List ℕ) → first (found size k label) ≡ accepted → Findable size k label
 findable size k label e =
@@ -90,11 +84,14 @@ row-next : (label tail : List ℕ) (height : ℕ) → all-zero label ≡ false �
 unfolding row-holds
 row-next label tail height e h = rw (e, le-leb (height + 1) top-height (omega arith), ne-eqb (height + 1) 0 (omega arith))
 
--- what is known besides once nothing refuses an append
-pub record Appendable (size : ℕ) (k : Lent) (label : List ℕ) : Type 0 where
-  pub there : Findable size k label
-  pub below : present-height k label < top-height
-  pub next : (tail : List ℕ) → row-holds label tail (present-height k label + 1) ≡ true
+-- room for more bytes is room for fewer
+pub fewer : {n : ℕ} {k : Lent} {label : List ℕ} (m : ℕ) → m ≤ n → Appendable n k label → Appendable m k label
+fewer m h a =
+    record {
+      there = record { room = omega (arith, a .there .room); long = a .there .long; place = a .there .place; holds = a .there .holds };
+      below = a .below;
+      next = a .next;
+    }
 
 pub appendable : (size : ℕ) (k : Lent) (label : List ℕ) (expected : ℕ) → append-refusal size k label expected ≡ accepted → Appendable size k label
 unfolding readiness lending numbered append-refusal

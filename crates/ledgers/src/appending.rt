@@ -2,6 +2,7 @@
 use crate::receipts::receipt;
 use crate::search::place_of;
 use crate::search::unfound;
+use crate::table::Shown;
 use crate::table::height_at;
 use crate::table::move_on;
 use record::acceptance;
@@ -20,9 +21,11 @@ ghost use lib.Dec.{eqb};
 ghost use Rattle.refusals.specs.{out-of-order, height-at-top};
 ghost use Rattle.refusals.specs.Order.{_⇒_, first};
 ghost use Rattle.rows.specs.Sizes.{top-height};
+ghost use Rattle.statement.specs.Kinds.{receipt-size};
 ghost use Rattle.rules.specs.Outcomes.{Lent, outcome, refusing};
 ghost use Rattle.rules.specs.Rows.{present-height};
 ghost use Rattle.rules.specs.Append.{append-refusal, appending};
+ghost use Rattle.ledgers.specs.Known.{Appendable, Entered};
 
 // Whether a height is the next one.
 fn is_next(expected: u64, height: u64) -> bool
@@ -66,6 +69,25 @@ pub fn refusal_of_append(
     refusal(unordered(expected, height), height, head)
 }
 
+// The row moves on, and its receipt is given.
+pub fn enter(
+    head: Head,
+    table: &mut [u8],
+    label: [u8; 16],
+    entry: [u8; 32],
+    area: &mut [u8],
+) -> Shown
+    requires { ⌜ Appendable receipt-size (record { head = head; table = now table; area = now area }) label ⌝ }
+    ensures { λ r. ⌜ Entered (record { head = head; table = now (table .entry); area = now (area .entry) }) label entry (now (table .exit)) (now (area .exit)) (r .tail) (r .height) ⌝ }
+{
+    let i = place_of(head, table, label);
+    let row = move_on(table, i, entry);
+    let tail = row.tail;
+    let kind = Kind::Append { height: row.height };
+    give(receipt(head, kind, label, tail), area);
+    row
+}
+
 // A ledger's next entry.
 pub fn append(
     head: Head,
@@ -81,10 +103,6 @@ pub fn append(
     if refused.answer.number != refusals::ACCEPTED {
         return refused;
     }
-    let i = place_of(head, table, label);
-    let row = move_on(table, i, entry);
-    let tail = row.tail;
-    let kind = Kind::Append { height: row.height };
-    give(receipt(head, kind, label, tail), area);
+    let _row = enter(head, table, label, entry, area);
     acceptance(RECEIPT_SIZE, head)
 }

@@ -1,10 +1,10 @@
 // Read, and Append and read.
+use crate::appending::enter;
 use crate::appending::refusal_of_append;
 use crate::receipts::receipt;
 use crate::search::place_of;
 use crate::search::unfound;
 use crate::table::height_at;
-use crate::table::move_on;
 use crate::table::tail_at;
 use octets::number_at;
 use record::acceptance;
@@ -16,8 +16,19 @@ use statement::Kind;
 use statement::READING_SIZE;
 use statement::RECEIPT_SIZE;
 ghost use mathlib.Core.Path.{_≡_};
+ghost use mathlib.Core.Bool.{true};
+ghost use Prim.Native.Nat.{_≤_};
+ghost use lib.ListN.{length};
+ghost use Rattle.octets.specs.Strings.{put};
+ghost use Rattle.rows.specs.Row.{row-holds};
+ghost use Rattle.statement.specs.Kinds.{reading-size};
+ghost use Rattle.statement.specs.Contents.{statement-written};
 ghost use Rattle.rules.specs.Outcomes.{Lent, outcome};
+ghost use Rattle.rules.specs.Rows.{receipt-of};
 ghost use Rattle.rules.specs.Read.{read-kind, reading, appending-and-reading};
+
+// The bytes of the statements of Append and read.
+const BOTH: usize = RECEIPT_SIZE + READING_SIZE;
 
 // Kind 3 at a height, with the nonce as two numbers.
 fn read_kind(height: u64, nonce: [u8; 16]) -> Kind
@@ -32,6 +43,16 @@ fn read_kind(height: u64, nonce: [u8; 16]) -> Kind
     }
 }
 
+// The statement of a read is given.
+fn show(head: Head, label: [u8; 16], tail: [u8; 32], height: u64, nonce: [u8; 16], area: &mut [u8])
+    requires { ⌜ (row-holds label tail height ≡ true) × (reading-size ≤ length (now area)) ⌝ }
+    ensures area { λ _. ⌜ now (area .exit) ≡ put (now (area .entry)) 0 (statement-written (receipt-of head (read-kind height nonce) label tail)) ⌝ }
+    ensures long { λ _. ⌜ length (statement-written (receipt-of head (read-kind height nonce) label tail)) ≡ reading-size ⌝ }
+{
+    let kind = read_kind(height, nonce);
+    give(receipt(head, kind, label, tail), area);
+}
+
 // A ledger's tail and height.
 pub fn read(head: Head, table: &[u8], label: [u8; 16], nonce: [u8; 16], area: &mut [u8]) -> Told
     ensures { λ r. ⌜ outcome r (now (table .entry)) (now (area .exit)) ≡ reading (record { head = head; table = now (table .entry); area = now (area .entry) }) label nonce ⌝ }
@@ -42,8 +63,7 @@ pub fn read(head: Head, table: &[u8], label: [u8; 16], nonce: [u8; 16], area: &m
     }
     let i = place_of(head, table, label);
     let tail = tail_at(table, i);
-    let kind = read_kind(height_at(table, i), nonce);
-    give(receipt(head, kind, label, tail), area);
+    show(head, label, tail, height_at(table, i), nonce, area);
     acceptance(READING_SIZE, head)
 }
 
@@ -59,17 +79,19 @@ pub fn append_and_read(
 ) -> Told
     ensures { λ r. ⌜ outcome r (now (table .exit)) (now (area .exit)) ≡ appending-and-reading (record { head = head; table = now (table .entry); area = now (area .entry) }) label entry expected nonce ⌝ }
 {
-    let size = RECEIPT_SIZE + READING_SIZE;
-    let refused = refusal_of_append(head, table, label, expected, area, size);
+    let refused = refusal_of_append(head, table, label, expected, area, BOTH);
     if refused.answer.number != refusals::ACCEPTED {
         return refused;
     }
-    let i = place_of(head, table, label);
-    let row = move_on(table, i, entry);
+    let row = enter(head, table, label, entry, area);
     let tail = row.tail;
-    let kind = Kind::Append { height: row.height };
-    give(receipt(head, kind, label, tail), area);
-    let shown = read_kind(row.height, nonce);
-    give(receipt(head, shown, label, tail), &mut area[RECEIPT_SIZE..]);
-    acceptance(size, head)
+    show(
+        head,
+        label,
+        tail,
+        row.height,
+        nonce,
+        &mut area[RECEIPT_SIZE..],
+    );
+    acceptance(BOTH, head)
 }

@@ -59,10 +59,12 @@ pub fn move_on(table: &mut [u8], i: usize, entry: [u8; 32]) -> Shown
     ensures tail { λ r. ⌜ r .tail ≡ appended (tail-of (now (table .entry)) i) entry ⌝ }
     ensures height { λ r. ⌜ r .height ≡ height-of (now (table .entry)) i + 1 ⌝ }
 {
-    let tail = appended(tail_at(table, i), entry);
-    let height = height_at(table, i) + 1;
-    move_row(table, i, tail, height);
-    Shown { tail, height }
+    let old = tail_at(table, i);
+    let height = height_at(table, i);
+    let tail = appended(old, entry);
+    let next = height + 1;
+    move_row(table, i, tail, next);
+    Shown { tail, height: next }
 }
 
 // 1 where row i has a smaller label, otherwise 0.

@@ -1,69 +1,85 @@
+-- `ledgers::reading::read` meets its contract. Assumes nothing.
+use mathlib.Core.Path.{_≡_, refl, sym, ap, _∙_}
+use Prim.Native.Nat.{ℕ}
+use native.Mathlib.Omega.{arith}
+use denote.Ref.{now}
+use lib.ListN.{length}
+use Rattle.octets.specs.Strings.{put}
+use Rattle.statement.specs.declared.Statement.{Statement}
+use Rattle.statement.specs.Kinds.{reading-size}
+use Rattle.statement.specs.Contents.{statement-written}
+use Rattle.rules.specs.Outcomes.{Lent, refusing}
+use Rattle.rules.specs.Rows.{present-tail, present-height, receipt-of}
+use Rattle.rules.specs.Read.{read-kind, reading}
+use Rattle.ledgers.specs.Known.{Findable}
+use Rattle.ledgers.proofs.Given.{refuses, accepts}
+use Rattle.ledgers.proofs.Places.{findable}
 use borrow.Author.Needs.{needs}
 use Rattle.ledgers.proofs.reading.read.Statement.{statement}
 use Rattle.ledgers.proofs.reading.read.Tie as tie
-use Rattle.ledgers.proofs.reading.read.Reads as reads
-use Rattle.ledgers.proofs.reading.read.Lts as lts
-use Rattle.ledgers.proofs.reading.read_kind.Reads as read-kind-reads
-use Rattle.ledgers.proofs.receipts.receipt.Reads as receipt-reads
-use Rattle.ledgers.proofs.search.place_of.Reads as place-of-reads
-use Rattle.ledgers.proofs.search.unfound.Reads as unfound-reads
-use Rattle.ledgers.proofs.table.height_at.Reads as height-at-reads
-use Rattle.ledgers.proofs.table.tail_at.Reads as tail-at-reads
-use Rattle.record.proofs.acceptance.Reads as acceptance-reads
-use Rattle.record.proofs.refusal.Reads as refusal-reads
-use Rattle.record.proofs.give.Reads as give-reads
 
--- src/reading.rt:39:9
+-- what is known once the ledger is found
+can :
+    (c : tie.Else1) →
+    let a = c .before .before .before .before .before .args in
+    Findable reading-size (record { head = a .head; table = now (a .table); area = now (a .area) }) (a .label)
+can c = findable reading-size _ _ (sym (c .before .unfound .ensures) ∙ c .if1 .left)
+
 unfound-requires : tie.Need-unfound-requires
 unfound-requires c κs = search needs
 
--- src/reading.rt:41:9
 refusal-requires : tie.Need-refusal-requires
 refusal-requires c κs = search needs
 
--- src/reading.rt:41:9
 same-length : tie.Need-same-length
 same-length c = search needs
 
--- src/reading.rt:41:9
 returns : tie.Need-returns
-returns c = ?
+unfolding reading
+returns c =
+    let a = c .before .before .before .before .before .before .args in
+    let k : Lent = record { head = a .head; table = now (a .table); area = now (a .area) } in
+    let u = c .before .before .unfound in
+    refuses k _ 0 (c .refusal .result) _ (λ n. c .before .if1 .taken (u .ensures ∙ n)) (c .refusal .ensures ∙ ap (λ (n : ℕ). record { answer = refusing n 0; head = a .head }) (u .ensures))
 
--- src/reading.rt:43:9
 place-of-requires : tie.Need-place-of-requires
 place-of-requires c κs = search needs
 
--- src/reading.rt:44:9
 tail-at-requires : tie.Need-tail-at-requires
-tail-at-requires c κs = ?
+tail-at-requires c κs =
+    let f = can (c .before) in
+    (omega (arith, f .place, c .place-of .ensures), f .long)
 
--- src/reading.rt:45:26
 height-at-requires : tie.Need-height-at-requires
-height-at-requires c κs = ?
+height-at-requires c κs =
+    let f = can (c .before .before) in
+    (omega (arith, f .place, c .before .place-of .ensures), f .long)
 
--- src/reading.rt:45:9
-read-kind-requires : tie.Need-read-kind-requires
-read-kind-requires c κs = search needs
+show-requires : tie.Need-show-requires
+show-requires c κs =
+    let f = can (c .before .before .before .before) in
+    (rw (c .before .before .tail-at .ensures, c .before .height-at .ensures, c .before .before .before .place-of .ensures) (f .holds), f .room)
 
--- src/reading.rt:46:10
-receipt-requires : tie.Need-receipt-requires
-receipt-requires c κs = search needs
-
--- src/reading.rt:46:5
-give-requires : tie.Need-give-requires
-give-requires c κs = ?
-
--- src/reading.rt:47:5
 acceptance-requires : tie.Need-acceptance-requires
 acceptance-requires c κs = search needs
 
--- src/reading.rt:36:1
 same-length-2 : tie.Need-same-length-2
 same-length-2 c = search needs
 
--- src/reading.rt:36:1
 returns-2 : tie.Need-returns-2
-returns-2 c = ?
+unfolding reading
+returns-2 c =
+    let shown = c .before .before .before in
+    let high = shown .before .before in
+    let a = high .before .before .before .before .before .before .before .before .args in
+    let k : Lent = record { head = a .head; table = now (a .table); area = now (a .area) } in
+    let e : receipt-of (a .head) (read-kind (high .height-at .result) (a .nonce)) (a .label) (high .before .tail-at .result)
+    ≡ receipt-of (a .head) (read-kind (present-height k (a .label)) (a .nonce)) (a .label) (present-tail k (a .label)) =
+    rw (high .before .tail-at .ensures, high .height-at .ensures, high .before .before .place-of .ensures) in
+    let tested = high .before .before .before in
+    accepts k _ 0 (c .acceptance .result) _ _ _ _ (a .head) reading-size (sym (tested .before .unfound .ensures) ∙ tested .if1 .left)
+    (sym (ap (λ (v : Statement). length (statement-written v)) e) ∙ shown .show .ensures .1) (c .acceptance .ensures) refl
+    (shown .show .ensures .0 ∙ ap (λ (v : Statement). put (now (a .area)) 0 (statement-written v)) e)
 
 pub read-spec : {M : Type 1} → statement M
 read-spec =
@@ -76,9 +92,7 @@ read-spec =
     place-of-requires
     tail-at-requires
     height-at-requires
-    read-kind-requires
-    receipt-requires
-    give-requires
+    show-requires
     acceptance-requires
     same-length-2
     returns-2)
