@@ -2,5 +2,6 @@
 pub mod Actives
 pub mod Given
 pub mod Makes
+pub mod Outcomes
 pub mod Places
 pub mod Tables
