@@ -1,5 +1,6 @@
 // New.
 use crate::receipts::receipt;
+use crate::search::is_known;
 use crate::table::add_row;
 use crate::table::count_smaller;
 use octets::is_zero;
@@ -8,21 +9,15 @@ use record::acceptance;
 use record::give;
 use record::refusal;
 use record::unready;
-use rows::Found;
 use rows::MOST;
 use rules::Head;
 use rules::Told;
 use statement::Kind;
+use statement::RECEIPT_SIZE;
 ghost use mathlib.Core.Path.{_≡_};
-ghost use mathlib.Core.Bool.{not};
-ghost use Rattle.rows.specs.Search.{find};
-ghost use Rattle.rules.specs.Rows.{is-absent};
 ghost use Prim.Native.Nat.{_<_};
 ghost use Rattle.rules.specs.Outcomes.{Lent, outcome};
 ghost use Rattle.rules.specs.New.{one-more, new-refusal, making};
-
-// The bytes of New's and Append's statements.
-pub const RECEIPT: usize = 121;
 
 fn one_more(head: Head) -> Head
     requires { ⌜ head .count < 255 ⌝ }
@@ -33,21 +28,18 @@ fn one_more(head: Head) -> Head
     next
 }
 
-// Whether the keeper has a ledger of this label.
-fn is_known(head: Head, table: &[u8], label: [u8; 16]) -> bool
-    ensures { λ r. ⌜ r ≡ not (is-absent (find (head .count) (now (table .entry)) label)) ⌝ }
-{
-    let Found::Absent = rows::find(table, head.count as usize, label) else {
-        return true;
-    };
-    false
-}
-
 // The first refusal, or 0.
 fn refusal_of_new(head: Head, table: &[u8], label: [u8; 16], area: &[u8]) -> u32
     ensures { λ r. ⌜ r ≡ new-refusal (record { head = head; table = now (table .entry); area = now (area .entry) }) label ⌝ }
 {
-    let n = unready(head, table, area, RECEIPT, ACTIVE, refusals::NOT_ACTIVE);
+    let n = unready(
+        head,
+        table,
+        area,
+        RECEIPT_SIZE,
+        ACTIVE,
+        refusals::NOT_ACTIVE,
+    );
     if n != refusals::ACCEPTED {
         return n;
     }
@@ -74,5 +66,5 @@ pub fn new(head: Head, table: &mut [u8], label: [u8; 16], area: &mut [u8]) -> To
     let i = count_smaller(table, head.count as usize, label);
     add_row(table, i, label);
     give(receipt(head, Kind::New, label, [0u8; 32]), area);
-    acceptance(RECEIPT, one_more(head))
+    acceptance(RECEIPT_SIZE, one_more(head))
 }

@@ -8,13 +8,15 @@ use rows::LABEL;
 use rows::ROW;
 use rows::TABLE;
 use rows::TAIL;
+use rows::appended;
 ghost use mathlib.Core.Path.{_≡_};
 ghost use mathlib.Core.Bool.{cond};
 ghost use Prim.Native.Nat.{_+_, _*_, _≤_, _<_};
 ghost use lib.ListN.{length};
 ghost use Rattle.octets.specs.Strings.{before};
-ghost use Rattle.rows.specs.Sizes.{row-bytes, most-rows, table-bytes};
+ghost use Rattle.rows.specs.Sizes.{row-bytes, most-rows, table-bytes, top-height};
 ghost use Rattle.rows.specs.Row.{label-of, tail-of, height-of};
+ghost use Rattle.rows.specs.Digests.{appended};
 ghost use Rattle.rules.specs.Table.{smaller, widened, moved};
 
 pub fn tail_at(table: &[u8], i: usize) -> [u8; 32]
@@ -42,6 +44,27 @@ pub fn move_row(table: &mut [u8], i: usize, tail: [u8; 32], height: u64)
     let at = ROW * i + LABEL;
     copy_at(table, at, &tail);
     put_number(table, at + TAIL, height);
+}
+
+// What a row shows after an entry.
+pub struct Shown {
+    pub tail: [u8; 32],
+    pub height: u64,
+}
+
+// Row i moves on by an entry.
+pub fn move_on(table: &mut [u8], i: usize, entry: [u8; 32]) -> Shown
+    requires { ⌜ (i < most-rows) × (length (now table) ≡ table-bytes) × (height-of (now table) i < top-height) ⌝ }
+    ensures table { λ _. ⌜ now (table .exit) ≡ moved (now (table .entry)) i (appended (tail-of (now (table .entry)) i) entry) (height-of (now (table .entry)) i + 1) ⌝ }
+    ensures tail { λ r. ⌜ r .tail ≡ appended (tail-of (now (table .entry)) i) entry ⌝ }
+    ensures height { λ r. ⌜ r .height ≡ height-of (now (table .entry)) i + 1 ⌝ }
+{
+    let old = tail_at(table, i);
+    let height = height_at(table, i);
+    let tail = appended(old, entry);
+    let next = height + 1;
+    move_row(table, i, tail, next);
+    Shown { tail, height: next }
 }
 
 // 1 where row i has a smaller label, otherwise 0.

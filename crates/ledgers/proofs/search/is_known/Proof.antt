@@ -1,11 +1,11 @@
--- `ledgers::making::is_known` meets its contract. Assumes nothing.
+-- `ledgers::search::is_known` meets its contract. Assumes nothing.
 use mathlib.Core.Path.{sym, ap, _∙_}
 use mathlib.Core.Bool.{not}
 use borrow.Author.Needs.{needs}
 use Rattle.rows.specs.declared.Found.{Found}
 use Rattle.rules.specs.Rows.{is-absent}
-use Rattle.ledgers.proofs.making.is_known.Statement.{statement}
-use Rattle.ledgers.proofs.making.is_known.Tie as tie
+use Rattle.ledgers.proofs.search.is_known.Statement.{statement}
+use Rattle.ledgers.proofs.search.is_known.Tie as tie
 
 cast-find : tie.Need-cast-find
 cast-find c = search needs

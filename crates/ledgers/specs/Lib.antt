@@ -1,0 +1,2 @@
+-- What the helpers of the ledgers' calls ask and leave.
+pub mod Known
