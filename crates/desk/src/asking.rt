@@ -8,6 +8,7 @@ use statement::read_statement;
 ghost use mathlib.Core.Path.{_≡_};
 ghost use mathlib.Core.Bool.{true, _&&_};
 ghost use mathlib.Core.List.{[]};
+ghost use lib.Dec.{leb};
 ghost use Rattle.octets.specs.Strings.{same};
 ghost use Rattle.octets.specs.Layouts.{holds};
 ghost use Rattle.rack.specs.Racks.{rack-layout};
@@ -20,6 +21,13 @@ const READ: u8 = 3;
 
 // Where the nonce of a read statement stands, up to its end: behind what every receipt has.
 const NONCE_PLACE: usize = RECEIPT_SIZE;
+
+// Whether a kind may be asked for.
+fn is_askable(asked: u8) -> bool
+    ensures { λ r. ⌜ r ≡ (leb 1 asked && leb asked 3) ⌝ }
+{
+    NEW <= asked && asked <= READ
+}
 
 // Whether a statement is of an identity, a rack and a ledger.
 fn is_of(v: Statement, identity: [u8; 32], digest: [u8; 32], label: [u8; 16]) -> bool
@@ -42,10 +50,7 @@ pub fn is_asked_for(identity: [u8; 32], rack: &[u8], asked: u8, label: [u8; 16],
     requires { ⌜ holds rack-layout (now rack) ≡ true ⌝ }
     ensures { λ r. ⌜ r ≡ is-asked-for (record { identity = identity; rack = now (rack .entry); asked = asked; label = label; nonce = [] }) (now (s .entry)) ⌝ }
 {
-    if asked < NEW {
-        return false;
-    }
-    if READ < asked {
+    if !is_askable(asked) {
         return false;
     }
     let reading = read_statement(s);
