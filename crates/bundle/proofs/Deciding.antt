@@ -13,9 +13,11 @@ use Rattle.marks.specs.Entries.{entry-fits, entries-fit, pair-position, pair-ma
 use Rattle.marks.proofs.Listed.{lowest, entry-by-lowest, one-more, one-fails}
 use Rattle.rows.specs.Table.{each}
 use Rattle.rows.proofs.Tables.{each-next, each-fails}
-use Rattle.rules.specs.Bundle.{longest-bundle, most-blocks, most-added, byte, old-count, old-at, old-position, old-marks, blocks-fit}
-use Rattle.rules.specs.Bundle.{new-at, new-count, new-entries, two-byte, list-at, added-fits, bundle-fits}
-use Rattle.bundle.proofs.Places.{old-before-new, new-before-lists, list-later, list-ends}
+use Rattle.roll.specs.Blocks.{block-bytes}
+use Rattle.statement.specs.Kinds.{digest-bytes}
+use Rattle.rules.specs.Bundle.{longest-bundle, most-blocks, most-added, byte, old-count, old-at, old-position, old-marks, old-blocks, blocks-fit}
+use Rattle.rules.specs.Bundle.{new-at, new-count, new-entries, two-byte, list-at, added, added-fits, bundle-fits}
+use Rattle.bundle.proofs.Places.{old-next, old-before-new, new-before-lists, list-next, list-later, list-ends}
 
 -- one of two tests fails
 fails : (p q : Bool) (goal : Type 0) → (p && q) ≡ false → (p ≡ false → goal) → (p ≡ true → q ≡ false → goal) → goal
@@ -60,12 +62,16 @@ module _ (n : ℕ) (s : List ℕ) where
 
   pub old-passes :
       (i : ℕ) → (ltb (old-at s i + 2) (length s) && entry-fits n (old-position s) (old-marks s) i && blocks-fit s i) ≡ true
-      → (old-at s i + 3 ≤ length s) × (entry-fits n (old-position s) (old-marks s) i ≡ true) × (blocks-fit s i ≡ true)
+      → (old-at s i + 3 ≤ length s) × (old-at s (i + 1) ≤ length s + block-bytes * most-blocks) × (entry-fits n (old-position s) (old-marks s) i ≡ true) × (blocks-fit s i ≡ true)
+  unfolding blocks-fit
   old-passes i e =
       let p = ltb (old-at s i + 2) (length s) in
       let q = entry-fits n (old-position s) (old-marks s) i in
       let pq = and-left (p && q) (blocks-fit s i) e in
-      (omega (arith, ltb-true (old-at s i + 2) (length s) (and-left p q pq)), and-right p q pq, and-right (p && q) (blocks-fit s i) e)
+      let b = and-right (p && q) (blocks-fit s i) e in
+      let few = leb-true (old-blocks s i) most-blocks (and-right (leb 1 (old-blocks s i)) (leb (old-blocks s i) most-blocks) b) in
+      let inside = ltb-true (old-at s i + 2) (length s) (and-left p q pq) in
+      (omega arith, omega (arith, old-next s i), and-right p q pq, b)
 
 -- the walk over the lists
 module _ (s : List ℕ) where
@@ -84,10 +90,15 @@ module _ (s : List ℕ) where
       (λ _ bad. rw (each-fails (added-fits s) count j h bad))
 
   pub list-passes :
-      (j : ℕ) → (ltb (list-at s j + 1) (length s) && added-fits s j) ≡ true → (list-at s j + 2 ≤ length s) × (added-fits s j ≡ true)
+      (j : ℕ) → (ltb (list-at s j + 1) (length s) && added-fits s j) ≡ true
+      → (list-at s j + 2 ≤ length s) × (list-at s (j + 1) ≤ length s + digest-bytes * most-added) × (added-fits s j ≡ true)
+  unfolding added-fits
   list-passes j e =
       let p = ltb (list-at s j + 1) (length s) in
-      (omega (arith, ltb-true (list-at s j + 1) (length s) (and-left p (added-fits s j) e)), and-right p (added-fits s j) e)
+      let b = and-right p (added-fits s j) e in
+      let few = leb-true (added s j) most-added b in
+      let inside = ltb-true (list-at s j + 1) (length s) (and-left p (added-fits s j) e) in
+      (omega arith, omega (arith, list-next s j), b)
 
 -- the whole string
 module _ (n m rows : ℕ) (s : List ℕ) where

@@ -1,43 +1,48 @@
+-- `bundle::marked::unmarked_new` meets its contract. Assumes nothing.
+use mathlib.Core.Path.{ap, _∙_}
+use mathlib.Core.List.{List}
+use Prim.Native.Nat.{ℕ, _+_, _/_}
+use denote.Ref.{now}
+use lib.ListN.{length}
+use Rattle.refusals.specs.Order.{first}
+use Rattle.marks.specs.Entries.{marks-tests, pair-marks}
+use Rattle.rules.specs.Bundle.{new-entries}
+use Rattle.bundle.proofs.Places.{list-first, new-part, new-half, new-before-lists}
 use borrow.Author.Needs.{needs}
+use native.Mathlib.Omega.{arith}
 use Rattle.bundle.proofs.marked.unmarked_new.Statement.{statement}
 use Rattle.bundle.proofs.marked.unmarked_new.Tie as tie
-use Rattle.bundle.proofs.marked.unmarked_new.Reads as reads
-use Rattle.bundle.proofs.marked.unmarked_new.Lts as lts
-use Rattle.bundle.proofs.walks.first_list.Reads as first-list-reads
-use Rattle.bundle.proofs.walks.new_at.Reads as new-at-reads
-use Rattle.marks.proofs.unmarked.Reads as unmarked-reads
 
--- src/marked.rt:37:16
 new-at-requires : tie.Need-new-at-requires
-new-at-requires c κs = ?
+new-at-requires c κs = (omega (arith, new-before-lists (now (c .before .args .s)) 0), c .before .pre .2)
 
--- src/marked.rt:37:16
 add-from : tie.Need-add-from
-add-from c = ?
+add-from c = omega (arith, new-before-lists (now (c .before .before .args .s)) 0)
 
--- src/marked.rt:38:9
 first-list-requires : tie.Need-first-list-requires
-first-list-requires c κs = ?
+first-list-requires c κs = (omega (arith, new-before-lists (now (c .before .before .args .s)) 0), c .before .before .pre .2)
 
--- src/marked.rt:39:21
 sub-unmarked : tie.Need-sub-unmarked
-sub-unmarked c = ?
+sub-unmarked c = omega (arith, list-first (now (c .before .before .before .args .s)))
 
--- src/marked.rt:39:21
 part-unmarked-start : tie.Need-part-unmarked-start
-part-unmarked-start c = ?
+part-unmarked-start c = omega (arith, list-first (now (c .before .before .before .args .s)))
 
--- src/marked.rt:39:21
 part-unmarked-end : tie.Need-part-unmarked-end
-part-unmarked-end c = search needs
+part-unmarked-end c = omega (arith, list-first (now (c .before .before .before .args .s)))
 
--- src/marked.rt:39:5
 unmarked-requires : tie.Need-unmarked-requires
 unmarked-requires c κs = search needs
 
--- src/marked.rt:33:1
 returns : tie.Need-returns
-returns c = ?
+returns c =
+    let a = c .before .before .before .before .before .args in
+    let s = now (a .s) in
+    let w = c .before .before .before .before .before .pre .1 in
+    let t = new-part s w (ap (λ (x : ℕ). x + 1) (c .before .before .before .new-at .ensures)) (c .before .before .first-list .ensures) in
+    c .unmarked .ensures
+    ∙ ap (λ (l : List ℕ). first (marks-tests (a .number) (pair-marks l) (length l / 2))) t
+    ∙ ap (λ (k : ℕ). first (marks-tests (a .number) (pair-marks (new-entries s)) k)) (new-half s w)
 
 pub unmarked-new-spec : {M : Type 1} → statement M
 unmarked-new-spec =
