@@ -9,6 +9,7 @@ use record::unready;
 use roll::read_roll;
 use rows::TABLE;
 use rules::Head;
+use statement::HANDOVER_SIZE;
 ghost use mathlib.Core.Path.{_≡_};
 ghost use mathlib.Core.Bool.{true, not, cond};
 ghost use Rattle.refusals.specs.Order.{first};
@@ -17,9 +18,6 @@ ghost use Rattle.rack.specs.Racks.{rack-layout};
 ghost use Rattle.roll.specs.Roll.{roll-layout};
 ghost use Rattle.rules.specs.Initialise.{absent, is-in-rack, initialise-refusal};
 ghost use Rattle.entering.specs.Parts.{own-tests, old-tests};
-
-// The bytes of the initialise statement.
-pub const HANDOVER: usize = 129;
 
 // Whether a key is one of a rack's.
 fn is_in_rack(key: [u8; 32], rack: &[u8]) -> bool
@@ -93,7 +91,7 @@ pub fn refusal_of_initialise(
 ) -> u32
     ensures { λ r. ⌜ r ≡ initialise-refusal (record { head = head; table = now (table .entry); area = now (area .entry) }) (now (roll .entry)) (now (previous .entry)) (now (own .entry)) ⌝ }
 {
-    let n = unready(head, table, area, HANDOVER, BLANK, refusals::NOT_BLANK);
+    let n = unready(head, table, area, HANDOVER_SIZE, BLANK, refusals::NOT_BLANK);
     if n != refusals::ACCEPTED {
         return n;
     }

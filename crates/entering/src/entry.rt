@@ -1,5 +1,5 @@
 // Initialise: founding, and taking over.
-use crate::asked::HANDOVER;
+
 use crate::asked::refusal_of_initialise;
 use crate::heads::founded;
 use crate::heads::preparing;
@@ -12,6 +12,7 @@ use roll::read_roll;
 use rows::TABLE;
 use rules::Head;
 use rules::Told;
+use statement::HANDOVER_SIZE;
 ghost use mathlib.Core.Path.{_≡_};
 ghost use Prim.Native.Nat.{_≤_};
 ghost use lib.ListN.{length};
@@ -26,7 +27,7 @@ fn enter(head: Head, table: &[u8], area: &mut [u8]) -> Told
     ensures { λ r. ⌜ outcome r (now (table .entry)) (now (area .exit)) ≡ entered (record { head = head; table = now (table .entry); area = now (area .entry) }) head (now (table .entry)) ⌝ }
 {
     give(spoken(head, table), area);
-    acceptance(HANDOVER, head)
+    acceptance(HANDOVER_SIZE, head)
 }
 
 // The keeper takes the roll and the identity, unproved.
