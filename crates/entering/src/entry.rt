@@ -1,5 +1,4 @@
 // Initialise: founding, and taking over.
-
 use crate::asked::refusal_of_initialise;
 use crate::heads::founded;
 use crate::heads::preparing;
