@@ -1,12 +1,12 @@
 -- `bundle::fitting::new_entries_fit` meets its contract. Assumes nothing.
-use mathlib.Core.Path.{_≡_, sym, ap, _∙_}
+use mathlib.Core.Path.{ap, _∙_}
 use mathlib.Core.List.{List}
 use Prim.Native.Nat.{ℕ, _+_, _≤_, _/_}
 use borrow.Author.Tests.{le-leb, lt-leb}
 use denote.Ref.{now}
 use lib.ListN.{length}
 use Rattle.marks.specs.Entries.{entries-fit, pair-position, pair-marks}
-use Rattle.rules.specs.Bundle.{new-at, new-count, new-entries, list-at}
+use Rattle.rules.specs.Bundle.{new-entries, list-at}
 use Rattle.bundle.proofs.Places.{list-first, new-part, new-half}
 use borrow.Author.Needs.{needs}
 use native.Mathlib.Omega.{arith}
