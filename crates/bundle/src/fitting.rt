@@ -2,9 +2,9 @@
 use crate::LONGEST;
 use crate::MOST_ADDED;
 use crate::MOST_BLOCKS;
+use crate::parts::new_entries;
 use crate::walks::added_at;
 use crate::walks::first_list;
-use crate::walks::new_at;
 use crate::walks::next_list;
 use crate::walks::next_old;
 use crate::walks::old_count;
@@ -58,12 +58,10 @@ fn new_entries_fit(s: &[u8], m: usize) -> bool
     requires { ⌜ (new-at (now s) < length (now s)) × (length (now s) ≤ longest-bundle) ⌝ }
     ensures { λ r. ⌜ r ≡ news-end m (now (s .entry)) ⌝ }
 {
-    let from = new_at(s) + 1;
-    let end = first_list(s);
-    if s.len() < end {
+    if s.len() < first_list(s) {
         return false;
     }
-    marks::entries_fit(&s[from..end], m)
+    marks::entries_fit(new_entries(s), m)
 }
 
 // Whether a list of entry digests may stand at a place.
