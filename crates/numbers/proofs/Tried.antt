@@ -37,9 +37,9 @@ use Rattle.rules.specs.Derivation.{row-in, no-more, row-derived, roll-of, roll-
 use Rattle.rules.specs.Activate.{rack-size, own-roll, bundle-tests, handover-tests, activating}
 use Rattle.rules.proofs.FoundRows.{row-found, row-labelled}
 use Rattle.record.proofs.Firsts.{sound-rows}
+use Rattle.desk.proofs.NumbersToTry.{listed-twice, one-signer, two-signers}
 use Rattle.numbers.specs.Cases.{Ready, Stands, Offered, Numbers-to-try}
 use Rattle.numbers.proofs.Prepared.{lent-by, status-refuses, ready-by, comes-to, has-effect}
-use Rattle.numbers.proofs.Signers.{twice, one, two}
 
 append-on-blank : (k : Lent) (label entry : List ℕ) (expected : ℕ) → Ready blank receipt-size k → appending k label entry expected ≡ refused 4 0 k
 unfolding appending append-refusal refused
@@ -167,9 +167,9 @@ tried-all =
       above-the-top = above-the-top;
       far-below = far-below;
       second-finalise = second-finalise;
-      same-signer-twice = λ q s m n a. twice q s a m n;
-      one-signer = λ q s p a. one q s a p;
-      two-signers = λ q s p r a. two q s a p r;
+      same-signer-twice = λ q s m n a. listed-twice q s (a .rack-holds) (a .of-three) m n;
+      one-signer = λ q s p a. one-signer q s (a .rack-holds) (a .of-three) (a .asked-for) (a .nonce) p;
+      two-signers = λ q s p r a. two-signers q s (a .rack-holds) (a .of-three) (a .asked-for) (a .nonce) p r;
       roll-alone = roll-alone;
       lacking-one = λ k previous own s i r o. lacking-one k previous own s o i r;
     }

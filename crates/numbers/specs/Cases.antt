@@ -26,7 +26,7 @@ use Rattle.rules.specs.Bundle.{old-count, old-marks, new-count, new-entries}
 use Rattle.rules.specs.Derivation.{row-in, roll-of}
 use Rattle.rules.specs.Activate.{rack-size, own-roll, bundle-tests, activating}
 use Rattle.marks.specs.Entries.{marks-tests, pair-marks}
-use Rattle.desk.specs.Verdict.{Question, is-asked-for, has-other-nonce, verdict-refusal}
+use Rattle.desk.specs.Verdict.{Question, is-asked-for, has-other-nonce, nothing-shown, shown, judging}
 
 -- a sound record of a status, lent with an area of so many bytes
 pub record Ready (status size : ℕ) (k : Lent) : Type 0 where
@@ -86,9 +86,9 @@ pub record Numbers-to-try : Type 0 where
       × (finalising (record { head = handed-over (k .head) next; table = k .table; area = area }) other
       ≡ again (last-words (handed-over (k .head) next) (k .table)) (record { head = handed-over (k .head) next; table = k .table; area = area }))
   -- "rack of 3, signer positions 1, 1: 22; one valid signer: 16; two: accepted"
-  pub same-signer-twice : (q : Question) (s : List ℕ) (m n : ℕ) → Asked q s → verdict-refusal q s (1 ∷ m ∷ 1 ∷ n ∷ []) ≡ 22
-  pub one-signer : (q : Question) (s : List ℕ) (p : ℕ) → Asked q s → p < 3 → verdict-refusal q s (p ∷ 3 ∷ []) ≡ 16
-  pub two-signers : (q : Question) (s : List ℕ) (p r : ℕ) → Asked q s → p < r → r < 3 → verdict-refusal q s (p ∷ 3 ∷ r ∷ 3 ∷ []) ≡ 0
+  pub same-signer-twice : (q : Question) (s : List ℕ) (m n : ℕ) → Asked q s → judging q s (1 ∷ m ∷ 1 ∷ n ∷ []) ≡ nothing-shown 22
+  pub one-signer : (q : Question) (s : List ℕ) (p : ℕ) → Asked q s → p < 3 → judging q s (p ∷ 3 ∷ []) ≡ nothing-shown 16
+  pub two-signers : (q : Question) (s : List ℕ) (p r : ℕ) → Asked q s → p < r → r < 3 → judging q s (p ∷ 3 ∷ r ∷ 3 ∷ []) ≡ shown s
   -- "roll without previous rack: 8"
   pub roll-alone :
       (k : Lent) (identity roll own : List ℕ) → Ready blank handover-size k → holds rack-layout own ≡ true → is-in-rack (k .head .key) own ≡ true
