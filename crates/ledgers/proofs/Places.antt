@@ -5,14 +5,13 @@ use mathlib.Core.List.{List, []}
 use Prim.Native.Nat.{ℕ, _+_, _≤_, _<_}
 use native.Mathlib.Omega.{arith}
 use borrow.Author.Tests.{eqb-false, leb-true, not-true, le-leb, ne-eqb}
-use lib.ListN.{length}
 use lib.Dec.{eqb, leb}
 use Rattle.refusals.specs.{accepted, no-such-ledger, out-of-order, height-at-top, not-active}
 use Rattle.refusals.specs.Order.{first}
 use Rattle.refusals.proofs.Orders.{numbered, passes, none-refuses}
 use Rattle.octets.specs.Strings.{all-zero}
 use Rattle.octets.proofs.RoundTrips.{and-left, and-right}
-use Rattle.rows.specs.Sizes.{most-rows, table-bytes, top-height}
+use Rattle.rows.specs.Sizes.{top-height}
 use Rattle.rows.specs.Row.{label-of, tail-of, height-of, row-holds, row-fits}
 use Rattle.rows.specs.Table.{each, rises, stands, rows-fit}
 use Rattle.rows.specs.Search.{find}
@@ -26,7 +25,7 @@ use Rattle.rules.specs.Rows.{is-absent, row-number, sought, present-tail, prese
 use Rattle.rules.specs.Append.{append-refusal}
 use Rattle.record.proofs.Firsts.{ready, sound-rows}
 use Rattle.ledgers.specs.Known.{Findable, Appendable}
-use Rattle.ledgers.proofs.Actives.{found, ordered}
+use Rattle.ledgers.specs.Tests.{found, ordered}
 
 -- what holds of each number below n holds of one
 each-of : (test : ℕ → Bool) (n i : ℕ) → i < n → each test n ≡ true → test i ≡ true
