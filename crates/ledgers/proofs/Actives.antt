@@ -2,31 +2,21 @@
 use mathlib.Core.Path.{_≡_, refl, sym, ap, _∙_}
 use mathlib.Core.Bool.{Bool, true, false, not, cond, _&&_}
 use mathlib.Core.List.{List, [], _∷_, _++_}
-use Prim.Native.Nat.{ℕ, _+_}
+use Prim.Native.Nat.{ℕ}
 use borrow.Author.Tests.{not-true}
 use lib.Dec.{eqb}
-use Rattle.refusals.specs.{accepted, not-active, no-such-ledger, out-of-order, height-at-top}
-use Rattle.refusals.specs.Order.{Test, _⇒_, first}
+use Rattle.refusals.specs.{accepted, not-active, out-of-order}
+use Rattle.refusals.specs.Order.{Test, first}
 use Rattle.refusals.proofs.Orders.{numbered, stops, goes-on}
 use Rattle.octets.proofs.RoundTrips.{and-left, and-right}
-use Rattle.rows.specs.Sizes.{top-height}
 use Rattle.rules.specs.Record.{active}
 use Rattle.rules.specs.Outcomes.{Lent, refusing, lending, readiness}
-use Rattle.rules.specs.Rows.{is-absent, sought, present-height}
+use Rattle.rules.specs.Rows.{present-height}
 use Rattle.rules.specs.Append.{append-refusal}
+use Rattle.ledgers.specs.Tests.{found, ordered}
 
--- readiness; with the search; and the tests of the heights
-abbrev pub asked : ℕ → Lent → List Test
+abbrev asked : ℕ → Lent → List Test
 asked size k = readiness size active not-active k
-
-abbrev pub found : ℕ → Lent → List ℕ → List Test
-found size k label = asked size k ++ (is-absent (sought k label) ⇒ no-such-ledger) ∷ []
-
-abbrev pub ordered : ℕ → ℕ → List Test
-ordered expected height =
-    (not (eqb expected (height + 1)) ⇒ out-of-order)
-    ∷ (eqb height top-height ⇒ height-at-top)
-    ∷ []
 
 module _ (size : ℕ) (k : Lent) (ts : List Test) (n : ℕ) (e : n ≡ first (asked size k)) where
   pub unready-first : (n ≡ accepted → ⊥) → first (asked size k ++ ts) ≡ n

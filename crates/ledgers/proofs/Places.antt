@@ -19,7 +19,7 @@ use Rattle.rules.specs.Append.{append-refusal}
 use Rattle.rules.proofs.FoundRows.{row-found, row-labelled, row-below, row-next}
 use Rattle.record.proofs.Firsts.{ready, sound-rows}
 use Rattle.ledgers.specs.Known.{Findable, Appendable}
-use Rattle.ledgers.proofs.Actives.{found, ordered}
+use Rattle.ledgers.specs.Tests.{found, ordered}
 
 pub findable : (size : ℕ) (k : Lent) (label : List ℕ) → first (found size k label) ≡ accepted → Findable size k label
 findable size k label e =

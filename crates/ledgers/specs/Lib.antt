@@ -1,2 +1,3 @@
 -- What the helpers of the ledgers' calls ask and leave.
 pub mod Known
+pub mod Tests

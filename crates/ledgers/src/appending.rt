@@ -14,18 +14,14 @@ use rules::Told;
 use statement::Kind;
 use statement::RECEIPT_SIZE;
 ghost use mathlib.Core.Path.{_≡_};
-ghost use mathlib.Core.Bool.{not};
-ghost use mathlib.Core.List.{[], _∷_};
 ghost use Prim.Native.Nat.{_+_};
 ghost use lib.Dec.{eqb};
-ghost use Rattle.refusals.specs.{out-of-order, height-at-top};
-ghost use Rattle.refusals.specs.Order.{_⇒_, first};
-ghost use Rattle.rows.specs.Sizes.{top-height};
+ghost use Rattle.refusals.specs.Order.{first};
 ghost use Rattle.statement.specs.Kinds.{receipt-size};
-ghost use Rattle.rules.specs.Outcomes.{Lent, outcome, refusing};
-ghost use Rattle.rules.specs.Rows.{present-height};
-ghost use Rattle.rules.specs.Append.{append-refusal, appending};
+ghost use Rattle.rules.specs.Outcomes.{Lent, outcome};
+ghost use Rattle.rules.specs.Append.{appending};
 ghost use Rattle.ledgers.specs.Known.{Appendable, Entered};
+ghost use Rattle.ledgers.specs.Tests.{ordered, append-told};
 
 // Whether a height is the next one.
 fn is_next(expected: u64, height: u64) -> bool
@@ -39,7 +35,7 @@ fn is_next(expected: u64, height: u64) -> bool
 
 // The first refusal of the heights, or 0.
 fn unordered(expected: u64, height: u64) -> u32
-    ensures { λ r. ⌜ r ≡ first ((not (eqb expected (height + 1)) ⇒ out-of-order) ∷ (eqb height top-height ⇒ height-at-top) ∷ []) ⌝ }
+    ensures { λ r. ⌜ r ≡ first (ordered expected height) ⌝ }
 {
     if !is_next(expected, height) {
         return refusals::OUT_OF_ORDER;
@@ -59,7 +55,7 @@ pub fn refusal_of_append(
     area: &[u8],
     size: usize,
 ) -> Told
-    ensures { λ r. ⌜ r ≡ record { answer = refusing (append-refusal size (record { head = head; table = now (table .entry); area = now (area .entry) }) label expected) (present-height (record { head = head; table = now (table .entry); area = now (area .entry) }) label); head = head } ⌝ }
+    ensures { λ r. ⌜ r ≡ append-told size (record { head = head; table = now (table .entry); area = now (area .entry) }) label expected ⌝ }
 {
     let n = unfound(head, table, label, area, size);
     if n != refusals::ACCEPTED {

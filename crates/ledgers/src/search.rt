@@ -5,13 +5,11 @@ use rows::Found;
 use rules::Head;
 ghost use mathlib.Core.Path.{_≡_};
 ghost use mathlib.Core.Bool.{not};
-ghost use mathlib.Core.List.{[], _∷_, _++_};
-ghost use Rattle.refusals.specs.{not-active, no-such-ledger};
-ghost use Rattle.refusals.specs.Order.{_⇒_, first};
+ghost use Rattle.refusals.specs.Order.{first};
 ghost use Rattle.rows.specs.Search.{find};
-ghost use Rattle.rules.specs.Record.{active};
-ghost use Rattle.rules.specs.Outcomes.{Lent, readiness};
+ghost use Rattle.rules.specs.Outcomes.{Lent};
 ghost use Rattle.rules.specs.Rows.{is-absent, row-number};
+ghost use Rattle.ledgers.specs.Tests.{found};
 
 // Whether the keeper has a ledger of this label.
 pub fn is_known(head: Head, table: &[u8], label: [u8; 16]) -> bool
@@ -35,7 +33,7 @@ pub fn place_of(head: Head, table: &[u8], label: [u8; 16]) -> usize
 
 // The first refusal, or 0.
 pub fn unfound(head: Head, table: &[u8], label: [u8; 16], area: &[u8], size: usize) -> u32
-    ensures { λ r. ⌜ r ≡ first (readiness size active not-active (record { head = head; table = now (table .entry); area = now (area .entry) }) ++ (is-absent (find (head .count) (now (table .entry)) label) ⇒ no-such-ledger) ∷ []) ⌝ }
+    ensures { λ r. ⌜ r ≡ first (found size (record { head = head; table = now (table .entry); area = now (area .entry) }) label) ⌝ }
 {
     let n = unready(head, table, area, size, ACTIVE, refusals::NOT_ACTIVE);
     if n != refusals::ACCEPTED {

@@ -14,7 +14,7 @@ ghost use mathlib.Core.Bool.{cond};
 ghost use Prim.Native.Nat.{_+_, _*_, _≤_, _<_};
 ghost use lib.ListN.{length};
 ghost use Rattle.octets.specs.Strings.{before};
-ghost use Rattle.rows.specs.Sizes.{row-bytes, most-rows, table-bytes, top-height};
+ghost use Rattle.rows.specs.Sizes.{most-rows, table-bytes, top-height};
 ghost use Rattle.rows.specs.Row.{label-of, tail-of, height-of};
 ghost use Rattle.rows.specs.Digests.{appended};
 ghost use Rattle.rules.specs.Table.{smaller, widened, moved};

@@ -8,7 +8,8 @@ use Rattle.rows.specs.Row.{height-of}
 use Rattle.rules.specs.declared.Answer.{Answer}
 use Rattle.rules.specs.Outcomes.{Lent, refusing}
 use Rattle.rules.specs.Rows.{present-height}
-use Rattle.ledgers.proofs.Actives.{ordered, found-append, unfound-answer}
+use Rattle.ledgers.specs.Tests.{ordered}
+use Rattle.ledgers.proofs.Actives.{found-append, unfound-answer}
 use Rattle.ledgers.proofs.Places.{findable}
 use borrow.Author.Needs.{needs}
 use Rattle.ledgers.proofs.appending.refusal_of_append.Statement.{statement}

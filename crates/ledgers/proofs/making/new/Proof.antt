@@ -1,22 +1,20 @@
 -- `ledgers::making::new` meets its contract. Assumes nothing.
-use mathlib.Core.Path.{_≡_, sym, ap, _∙_}
-use mathlib.Core.Bool.{true}
+use mathlib.Core.Path.{sym, ap, _∙_}
+use mathlib.Core.List.{List}
+use Prim.Native.Nat.{ℕ}
 use native.Mathlib.Omega.{arith}
 use denote.Ref.{now}
-use borrow.Author.Tests.{eq-eqb, ne-eqb}
 use borrow.Author.Needs.{needs}
-use lib.ListN.{length}
-use Rattle.statement.specs.declared.Kind.the-variants.{New}
-use Rattle.statement.specs.Kinds.{receipt-size, size}
-use Rattle.statement.specs.Contents.{statement-written, statement-fits}
-use Rattle.statement.specs.Cut.{no-digest}
-use Rattle.statement.proofs.Records.{fits-kind, written-length}
-use Rattle.statement.proofs.Types.{arrays}
-use Rattle.rules.specs.Rows.{receipt-of}
+use Rattle.octets.specs.Strings.{put}
 use Rattle.statement.specs.declared.Statement.{Statement}
-use Rattle.rules.specs.declared.Told.{Told}
-use Rattle.rules.specs.Outcomes.{Lent, outcome, refused, given, unless}
-use Rattle.rules.specs.New.{making}
+use Rattle.statement.specs.Kinds.{receipt-size}
+use Rattle.statement.specs.Contents.{statement-written, statement-fits}
+use Rattle.statement.proofs.Types.{arrays}
+use Rattle.rules.specs.declared.Head.{Head}
+use Rattle.rules.specs.Outcomes.{Lent, refusing, accepting}
+use Rattle.rules.specs.Table.{widened}
+use Rattle.rules.specs.New.{one-more, making}
+use Rattle.ledgers.proofs.Given.{made-length, refuses, accepts}
 use Rattle.ledgers.proofs.Makes.{Makeable, makeable, new-fits, smaller-most}
 use Rattle.ledgers.proofs.making.new.Statement.{statement}
 use Rattle.ledgers.proofs.making.new.Tie as tie
@@ -44,11 +42,12 @@ same-length-2 : tie.Need-same-length-2
 same-length-2 c = search needs
 
 returns : tie.Need-returns
-unfolding refused unless making
+unfolding making
 returns c =
     let a = c .before .before .before .before .before .before .before .args in
+    let k : Lent = record { head = a .head; table = now (a .table); area = now (a .area) } in
     let n = c .before .before .refusal-of-new in
-    rw (← (n .ensures), ne-eqb _ _ (c .before .if1 .taken)) (ap (λ (r : Told). outcome r (now (a .table)) (now (a .area))) (c .refusal .ensures))
+    refuses k _ 0 (c .refusal .result) _ (λ z. c .before .if1 .taken (n .ensures ∙ z)) (c .refusal .ensures ∙ ap (λ (x : ℕ). record { answer = refusing x 0; head = a .head }) (n .ensures))
 
 cast-count-smaller : tie.Need-cast-count-smaller
 cast-count-smaller c = search needs
@@ -91,28 +90,18 @@ same-length-4 : tie.Need-same-length-4
 same-length-4 c = search needs
 
 returns-2 : tie.Need-returns-2
-unfolding lent given unless making
+unfolding lent making
 returns-2 c =
     let rc = c .before .before .before .before .before .before .receipt in
-    let m = can (c .before .before .before .before .before .before .before .before .before .before .before .before .before .before) in
-    let a = c .before .before .before .before .before .before .before .before .before .before .before .before .before .before .before .before .before .before .before .before .args in
-    let fits : statement-fits (rc .result) ≡ true = ap statement-fits (rc .ensures) ∙ new-fits (a .head) (a .label) (m .labelled) in
-    let kind : size (rc .result .kind) ≡ receipt-size = ap (λ (v : Statement). size (v .kind)) (rc .ensures) in
-    let long : length (statement-written (rc .result)) ≡ receipt-size = written-length (rc .result) (arrays (rc .result) _ (rc .ok)) (fits-kind (rc .result) fits) ∙ kind in
-    let bytes : statement-written (rc .result) ≡ statement-written (receipt-of (a .head) New (a .label) no-digest) = ap statement-written (rc .ensures) in
     let added = c .before .before .before .before .before .before .before .before .before in
     let tested = added .before .before .before .before .before in
-    rw (
-      ← (tested .before .refusal-of-new .ensures),
-      eq-eqb _ _ (tested .if1 .left),
-      ← bytes,
-      long,
-      c .acceptance .ensures,
-      c .before .one-more .ensures,
-      c .before .before .before .before .give .ensures,
-      added .add-row .ensures,
-      added .before .before .count-smaller .ensures,
-    )
+    let a = tested .before .before .before .before .before .before .args in
+    let t : List ℕ = now (a .table) in
+    accepts (lent tested) _ 0 (c .acceptance .result) _ _ _ _ (one-more (a .head)) receipt-size (sym (tested .before .refusal-of-new .ensures) ∙ tested .if1 .left)
+    (made-length (rc .result) _ (rc .ensures) (arrays (rc .result) _ (rc .ok)) (new-fits (a .head) (a .label) (can tested .labelled)))
+    (c .acceptance .ensures ∙ ap (λ (h : Head). record { answer = accepting receipt-size; head = h }) (c .before .one-more .ensures))
+    (added .add-row .ensures ∙ ap (λ (i : ℕ). widened t i (a .label)) (added .before .before .count-smaller .ensures))
+    (c .before .before .before .before .give .ensures ∙ ap (λ (v : Statement). put (now (a .area)) 0 (statement-written v)) (rc .ensures))
 
 pub new-spec : {M : Type 1} → statement M
 new-spec =

@@ -59,7 +59,11 @@ returns-4 c =
     let k : Lent = record { head = a .head; table = now (a .table); area = now (a .area) } in
     let u = c .before .before .before .before .before .before .before .before .unready in
     sym (ready-first receipt-size k _ (u .result) (u .ensures) (c .before .before .before .before .before .before .before .if1 .left)
-    ∙ rw (sym (c .before .before .before .before .before .is-zero .ensures) ∙ c .before .before .before .before .if2 .left, sym (c .before .before .before .is-known .ensures) ∙ c .before .before .if3 .left, eq-eqb _ _ (c .if4 .taken)))
+    ∙ rw (
+      sym (c .before .before .before .before .before .is-zero .ensures) ∙ c .before .before .before .before .if2 .left,
+      sym (c .before .before .before .is-known .ensures) ∙ c .before .before .if3 .left,
+      eq-eqb _ _ (c .if4 .taken),
+    ))
 
 returns-5 : tie.Need-returns-5
 unfolding first new-refusal
@@ -68,7 +72,11 @@ returns-5 c =
     let k : Lent = record { head = a .head; table = now (a .table); area = now (a .area) } in
     let u = c .before .before .before .before .before .before .before .before .unready in
     sym (ready-first receipt-size k _ (u .result) (u .ensures) (c .before .before .before .before .before .before .before .if1 .left)
-    ∙ rw (sym (c .before .before .before .before .before .is-zero .ensures) ∙ c .before .before .before .before .if2 .left, sym (c .before .before .before .is-known .ensures) ∙ c .before .before .if3 .left, ne-eqb _ _ (c .if4 .left)))
+    ∙ rw (
+      sym (c .before .before .before .before .before .is-zero .ensures) ∙ c .before .before .before .before .if2 .left,
+      sym (c .before .before .before .is-known .ensures) ∙ c .before .before .if3 .left,
+      ne-eqb _ _ (c .if4 .left),
+    ))
 
 pub refusal-of-new-spec : {M : Type 1} → statement M
 refusal-of-new-spec =

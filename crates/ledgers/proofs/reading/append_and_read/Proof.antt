@@ -2,7 +2,7 @@
 use mathlib.Core.List.{List}
 use borrow.Rule.Slice.PartMut.{putMid}
 use Rattle.octets.proofs.Puts.{put-length, put-put}
-use mathlib.Core.Path.{_≡_, refl, sym, ap, _∙_}
+use mathlib.Core.Path.{_≡_, sym, ap, _∙_}
 use Prim.Native.Nat.{ℕ, _+_, _-_}
 use native.Mathlib.Omega.{arith}
 use denote.Ref.{now}
