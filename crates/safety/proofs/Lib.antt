@@ -1,0 +1,3 @@
+-- The proof of demand 3.
+pub mod Views
+pub mod Tales
