@@ -1,3 +1,4 @@
 -- The proof of demand 3.
 pub mod Views
 pub mod Tales
+pub mod Quorums
