@@ -2,3 +2,4 @@
 pub mod Views
 pub mod Tales
 pub mod Quorums
+pub mod Sights
