@@ -3,3 +3,4 @@ pub mod Views
 pub mod Tales
 pub mod Quorums
 pub mod Sights
+pub mod Offices
