@@ -4,3 +4,4 @@ pub mod Tales
 pub mod Quorums
 pub mod Sights
 pub mod Offices
+pub mod Turns
