@@ -5,3 +5,7 @@ pub mod Quorums
 pub mod Sights
 pub mod Offices
 pub mod Turns
+pub mod Keepers
+pub mod Handovers
+pub mod Covered
+pub mod Safe

@@ -39,10 +39,15 @@ pub record Handover (start : List ℕ → Keeper) (h : List Event) (identity pre
   pub handed : Most old (Hands start h identity previous own roll)
   pub entered : Most new (λ key. Said start key (enter-of identity previous own (roll-name roll)) h)
 
--- handovers lead from an identity's founding rack to a rack
-pub data Leads (start : List ℕ → Keeper) (h : List Event) (identity : List ℕ) : List ℕ → Type 0 where
-  from-founding : Leads start h identity identity
-  by-handover : {previous own : List ℕ} (roll : Roll) → Leads start h identity previous → Handover start h identity previous own roll → Leads start h identity own
+-- handovers of one identity lead from a rack to a rack
+pub data Line (start : List ℕ → Keeper) (h : List Event) (identity first : List ℕ) : List ℕ → Type 0 where
+  from-there : Line start h identity first first
+  by-handover : {previous own : List ℕ} (roll : Roll) → Line start h identity first previous → Handover start h identity previous own roll
+    → Line start h identity first own
+
+-- and from its founding rack, whose digest is the identity
+abbrev pub Leads : (List ℕ → Keeper) → List Event → List ℕ → List ℕ → Type 0
+Leads start h identity own = Line start h identity identity own
 
 -- active or finalised
 pub data Live (k : Keeper) : Type 0 where
@@ -97,9 +102,9 @@ module _ {start : List ℕ → Keeper} {h : List Event} (e : Event) where
       ; entered = most-map (λ key s. before-said s) (g .entered)
       }
 
-  pub leads-on : {identity own : List ℕ} → Leads start h identity own → Leads start (e ∷ h) identity own
-  leads-on from-founding = from-founding
-  leads-on (by-handover roll l g) = by-handover roll (leads-on l) (handover-on g)
+  pub line-on : {identity first own : List ℕ} → Line start h identity first own → Line start (e ∷ h) identity first own
+  line-on from-there = from-there
+  line-on (by-handover roll l g) = by-handover roll (line-on l) (handover-on g)
 
   pub stands-on : {k : Keeper} {v : Statement} → Stands start h k v → Stands start (e ∷ h) k v
   stands-on (entering roll p q) = entering roll p q

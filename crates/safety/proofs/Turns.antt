@@ -17,9 +17,9 @@ use Rattle.safety.proofs.Views.{Seen, standing, look, Reaches, Grows, M
 use Rattle.safety.proofs.Tales.{Said, before-said}
 use Rattle.safety.proofs.Sights.{reached-on, reached-here, grows-here, grows-on, reached-tail}
 use Rattle.safety.proofs.Quorums.{Shared, shared}
-use Rattle.safety.proofs.Offices.{Hands, Handover, Leads, from-founding, by-handover, Live, is-active, is-finalised, Stands, entering, leaving, noting, Past, Heritage, from-first, inherited, Office, most-map, handover-on, leads-on, stands-on, no-receipt-enters, no-receipt-leaves, kinds-apart, said-called}
+use Rattle.safety.proofs.Offices.{Hands, Handover, Line, Leads, from-there, by-handover, Live, is-active, is-finalised, Stands, entering, leaving, noting, Past, Heritage, from-first, inherited, Office, most-map, handover-on, line-on, stands-on, no-receipt-enters, no-receipt-leaves, kinds-apart, said-called}
 
-none-in : {v : Statement} {l : List Statement} → v ∈ l → l ≡ [] → ⊥
+pub none-in : {v : Statement} {l : List Statement} → v ∈ l → l ≡ [] → ⊥
 none-in at-front e = let z : _≡_ {A = ℕ} 0 1 = cc in omega arith
 none-in (behind m) e = let z : _≡_ {A = ℕ} 0 1 = cc in omega arith
 
@@ -27,7 +27,7 @@ one-in : {v x : Statement} {l : List Statement} → v ∈ l → l ≡ x ∷ [] �
 one-in at-front e = cc
 one-in (behind {y} {l} m) e = let p : l ≡ [] = cc in absurd (none-in m p)
 
-live-not-blank : {k : Keeper} → Live k → k .head .status ≡ blank → ⊥
+pub live-not-blank : {k : Keeper} → Live k → k .head .status ≡ blank → ⊥
 live-not-blank (is-active p) e = omega arith
 live-not-blank (is-finalised p) e = omega arith
 
@@ -150,7 +150,7 @@ module _ {start : List ℕ → Keeper} {h : List Event} (e : Event) {key : List 
       record
       { stands = λ v s. stands-on e (office .stands v (back v s))
       ; one-tail = λ v w s t r q l g. office .one-tail v w (back v s) (back w t) r q l g
-      ; leads = λ d l. leads-on e (office .leads (c d) l)
+      ; leads = λ d l. line-on e (office .leads (c d) l)
       ; heritage = λ d l. heritage-on (office .heritage (c d) l)
       }
 
@@ -177,13 +177,13 @@ module _ {start : List ℕ → Keeper} {h : List Event} (e : Event) {key : List 
       ; heritage = λ c d. g d
       }
 
-  founding-office : Founding k k' said → Office start (e ∷ h) key k'
+  pub founding-office : Founding k k' said → Office start (e ∷ h) key k'
   founding-office f =
       first-office (f .was) (λ z. omega (arith, f .is)) (f .says)
-      (λ l. subst (λ (x : List ℕ). Leads start (e ∷ h) (k' .head .identity) x) (sym (f .founds)) from-founding)
+      (λ l. subst (λ (x : List ℕ). Leads start (e ∷ h) (k' .head .identity) x) (sym (f .founds)) from-there)
       (λ l. from-first (f .first))
 
-  preparing-office : {Hashes : List ℕ → Type 0} → Preparing Hashes k k' said → Office start (e ∷ h) key k'
+  pub preparing-office : {Hashes : List ℕ → Type 0} → Preparing Hashes k k' said → Office start (e ∷ h) key k'
   preparing-office f =
       first-office (f .was) (λ z. omega (arith, f .is)) (f .says)
       (λ l. absurd (live-not-prepared l (f .is))) (λ l. absurd (live-not-prepared l (f .is)))
@@ -229,9 +229,9 @@ module _ {start : List ℕ → Keeper} {h : List Event} (e : Event) {key : List 
 
     -- from one call in office to the next
     kept-office : called key h ≡ true → Live k → Office start (e ∷ h) key k'
-    kept-office c l = stay-office (λ d. leads-moves e (t .stays) (leads-on e (office .leads c l))) (λ d. stay-heritage (office .heritage c l))
+    kept-office c l = stay-office (λ d. leads-moves e (t .stays) (line-on e (office .leads c l))) (λ d. stay-heritage (office .heritage c l))
 
-  noting-office : called key h ≡ true → Noting k k' said → Office start (e ∷ h) key k'
+  pub noting-office : called key h ≡ true → Noting k k' said → Office start (e ∷ h) key k'
   noting-office c n =
       kept-office
       (record { stays = n .stays; grows = n .grows; not-finalised = λ z. omega (arith, n .was); not-blank = λ z. omega (arith, n .is); live = λ l. is-active (n .is) })
@@ -239,7 +239,7 @@ module _ {start : List ℕ → Keeper} {h : List Event} (e : Event) {key : List 
       (λ v m r. n .notes v m) c (is-active (n .was))
 
   module _ {Hashes : List ℕ → Type 0} (hashes : (s : List ℕ) → Hashes s → Hashed start s (e ∷ h)) where
-    closing-office : called key h ≡ true → Closing Hashes k k' said → Office start (e ∷ h) key k'
+    pub closing-office : called key h ≡ true → Closing Hashes k k' said → Office start (e ∷ h) key k'
     closing-office c n =
         kept-office
         (record
@@ -283,7 +283,7 @@ module _ {start : List ℕ → Keeper} {h : List Event} (e : Event) {key : List 
       prepared-past a w (told-now m) r = absurd (none-in m (a .says))
       prepared-past a w (told-before s) r = absurd (live-not-prepared (receipt-live (office .stands w s) r) (a .was))
 
-      activating-office : Activating Hashes (λ other v. Said start other v h) k k' said → Office start (e ∷ h) key k'
+      pub activating-office : Activating Hashes (λ other v. Said start other v h) k k' said → Office start (e ∷ h) key k'
       activating-office a =
           stay-office
           (record
@@ -294,14 +294,14 @@ module _ {start : List ℕ → Keeper} {h : List Event} (e : Event) {key : List 
            ; live = λ l. is-active (a .is)
            })
           (λ v m. absurd (none-in m (a .says))) (λ v m r. absurd (none-in m (a .says)))
-          (λ l. leads-moves e (a .stays) (by-handover (roll-in k) (leads-on e (led-there a)) (taken-over a)))
+          (λ l. leads-moves e (a .stays) (by-handover (roll-in k) (line-on e (led-there a)) (taken-over a)))
           (λ l. inherited (roll-in k) (handover-moves e (a .stays) (taken-over a)) (same-roll (roll-in k) (roll-in k') (a .roll-stays)) (λ w s r. prepared-past a w (tells w s) r))
 
   idle-back : Idle k k' said → (v : Statement) → Told start h key said v → Said start key v h
   idle-back n v (told-now m) = absurd (none-in m (n .says))
   idle-back n v (told-before s) = s
 
-  idle-office : called key h ≡ true → Idle k k' said → Office start (e ∷ h) key k'
+  pub idle-office : called key h ≡ true → Idle k k' said → Office start (e ∷ h) key k'
   idle-office c n =
       subst (λ (x : Keeper). Office start (e ∷ h) key x) (λ i. record { head = sym (n .same-head) i; table = sym (n .same-table) i })
       (quiet-office e (λ v s. idle-back n v (tells v s)) (λ d. c) office)
