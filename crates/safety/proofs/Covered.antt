@@ -7,14 +7,14 @@ use Rattle.statement.specs.declared.Statement.{Statement}
 use Rattle.desk.specs.Verdict.{height-in}
 use Rattle.safety.specs.Calls.{Keeper}
 use Rattle.safety.specs.Histories.{Event, keeper-after}
-use Rattle.safety.specs.Hashed.{Told-apart, roll-string, roll-in}
-use Rattle.safety.proofs.Views.{Reaches, Vouched}
+use Rattle.safety.specs.Hashed.{Told-apart, roll-in}
+use Rattle.safety.proofs.Views.{Reaches}
 use Rattle.safety.proofs.Sights.{reached-on, reached-in}
-use Rattle.safety.proofs.Quorums.{Shared, shared-of}
+use Rattle.safety.proofs.Quorums.{shared-of}
 use Rattle.safety.proofs.Offices.{Hands, Handover, Line, from-there, by-handover, is-finalised, Office}
-use Rattle.safety.proofs.Turns.{Left, receipt-reaches}
+use Rattle.safety.proofs.Turns.{receipt-reaches}
 use Rattle.safety.proofs.Keepers.{Vouched-after}
-use Rattle.safety.proofs.Handovers.{rack-same, roll-same, Inheritance, inheritance, left-by-said}
+use Rattle.safety.proofs.Handovers.{rack-same, roll-same, inheritance, left-by-said}
 
 module _ {start : List ℕ → Keeper} {h : List Event} (all : (key : List ℕ) → Office start h key (keeper-after start h key)) (apart : Told-apart start h)
     {label : List ℕ} {height : ℕ} {tail : List ℕ} where

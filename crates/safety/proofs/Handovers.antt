@@ -1,6 +1,6 @@
 -- One rack has one heir, so of two lines of handovers from one founding rack one goes on from the other. Assumes nothing.
-use mathlib.Core.Path.{_≡_, refl, sym, ap, subst, subst₃, _∙_}
-use mathlib.Core.List.{List, [], _∷_}
+use mathlib.Core.Path.{_≡_, refl, sym, subst, subst₃, _∙_}
+use mathlib.Core.List.{List, _∷_}
 use Prim.Native.Nat.{ℕ}
 use Rattle.hash.specs.Sha256.{sha256}
 use Rattle.rack.specs.Racks.{rack-digest}
@@ -8,14 +8,13 @@ use Rattle.rows.specs.Digests.{digest-of-rows, roll-digest}
 use Rattle.roll.specs.Roll.{Roll}
 use Rattle.statement.specs.declared.Statement.{Statement}
 use Rattle.statement.specs.Cut.{no-digest}
-use Rattle.rules.specs.declared.Head.{Head}
 use Rattle.safety.specs.Calls.{Keeper}
 use Rattle.safety.specs.Histories.{Event, keeper-after}
 use Rattle.safety.specs.Hashed.{Hashed, Told-apart, rack-string, roll-string, roll-in}
-use Rattle.safety.proofs.Views.{Grows, Most, Receipt, enter-of, leave-of, roll-name}
+use Rattle.safety.proofs.Views.{Grows, Receipt, enter-of, leave-of, roll-name}
 use Rattle.safety.proofs.Tales.{Said}
-use Rattle.safety.proofs.Quorums.{Shared, shared-of}
-use Rattle.safety.proofs.Offices.{Hands, Handover, Line, from-there, by-handover, Live, Past, Heritage, from-first, inherited, Office, said-called}
+use Rattle.safety.proofs.Quorums.{shared-of}
+use Rattle.safety.proofs.Offices.{Handover, Line, from-there, by-handover, Live, Past, Heritage, from-first, inherited, Office, said-called}
 use Rattle.safety.proofs.Turns.{Left, left-stands, Entered, entered-stands}
 
 tail-same : (x : ℕ) (a b : List ℕ) → x ∷ a ≡ x ∷ b → a ≡ b

@@ -9,16 +9,13 @@ use Rattle.octets.proofs.RoundTrips.{same-is, same-refl}
 use Rattle.refusals.specs.{accepted}
 use Rattle.statement.specs.declared.Statement.{Statement}
 use Rattle.statement.specs.Cut.{cut-statement}
-use Rattle.rules.specs.declared.Head.{Head}
-use Rattle.rules.specs.Record.{blank}
-use Rattle.desk.specs.declared.Finding.{Finding}
 use Rattle.desk.specs.Verdict.{Question, judging}
 use Rattle.safety.specs.Calls.{Keeper, Call, left-by}
 use Rattle.safety.specs.Histories.{Event, At, Judged, keeper-after, called, _∈_, at-front, behind}
 use Rattle.safety.specs.Hashed.{Hashed, now-hashed, before-hashed, rack-string}
 use Rattle.safety.proofs.Views.{Vouched, Waking, founds, prepares, notes, closes, activates, idles}
 use Rattle.safety.proofs.Tales.{Said, before-said, says, Seen-as, Tale, begun, woken, acted, judged, Verdict-on}
-use Rattle.safety.proofs.Offices.{Office, Live, most-map, said-called, said-judged, Said-at, said-here, said-earlier, said-at}
+use Rattle.safety.proofs.Offices.{Office, most-map, said-called, said-judged, Said-at, said-here, said-earlier, said-at}
 use Rattle.safety.proofs.Turns.{Told, told-now, told-before, none-in, live-not-blank, unsaid-office, quiet-office, founding-office, preparing-office, noting-office, closing-office, activating-office, idle-office}
 
 false-true : _≡_ {A = Bool} false true → ⊥

@@ -1,7 +1,7 @@
 -- The handovers of a history, and the office of one keeper: what its record says of each statement that it said. Assumes nothing.
-use mathlib.Core.Path.{_≡_, refl, sym, ap, subst, subst₃, _∙_}
+use mathlib.Core.Path.{_≡_, refl, ap}
 use mathlib.Core.Bool.{Bool, true, false, _||_}
-use mathlib.Core.List.{List, [], _∷_}
+use mathlib.Core.List.{List, _∷_}
 use Prim.Native.Nat.{ℕ}
 use native.Mathlib.Omega.{arith}
 use Rattle.octets.specs.Strings.{same}
@@ -9,14 +9,13 @@ use Rattle.octets.proofs.RoundTrips.{same-refl}
 use Rattle.rack.specs.Racks.{rack-digest}
 use Rattle.roll.specs.Roll.{Roll}
 use Rattle.statement.specs.declared.Kind.{Kind}
-use Rattle.statement.specs.declared.Kind.the-variants.{Blank, New, Append, Read, Finalise, Initialise}
+use Rattle.statement.specs.declared.Kind.the-variants.{Finalise, Initialise}
 use Rattle.statement.specs.declared.Statement.{Statement}
 use Rattle.statement.specs.Cut.{no-digest}
-use Rattle.rules.specs.declared.Head.{Head}
-use Rattle.rules.specs.Record.{blank, prepared, active, finalised}
+use Rattle.rules.specs.Record.{blank, active, finalised}
 use Rattle.desk.specs.Verdict.{Question, height-in}
 use Rattle.safety.specs.Calls.{Keeper, Call}
-use Rattle.safety.specs.Histories.{Event, At, Judged, keeper-after, called, _∈_, at-front, behind}
+use Rattle.safety.specs.Histories.{Event, At, Judged, keeper-after, called, _∈_}
 use Rattle.safety.specs.Hashed.{Hashed, before-hashed, rack-string, roll-string, roll-in}
 use Rattle.safety.proofs.Views.{Reaches, Grows, Most, enter-of, leave-of, roll-name, Receipt, of-new, of-append, of-read}
 use Rattle.safety.proofs.Tales.{Said, now-said, before-said, says}

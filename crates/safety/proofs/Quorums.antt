@@ -5,7 +5,7 @@ use Prim.Native.Nat.{ℕ, zero, suc, _+_, _≤_, _<_}
 use native.Mathlib.Decide.{decLt}
 use native.Mathlib.Nat.{not-suc-le-zero}
 use native.Mathlib.Omega.{arith}
-use Rattle.rack.specs.Racks.{Rack, rack-cut}
+use Rattle.rack.specs.Racks.{rack-cut}
 use Rattle.safety.specs.Chip.{key-at}
 use Rattle.safety.proofs.Views.{Most}
 

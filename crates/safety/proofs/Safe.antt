@@ -1,22 +1,20 @@
 -- A tale is safe: two accepted verdicts with one identity, label and height name the same tail. Assumes nothing.
-use mathlib.Core.Path.{_≡_, refl, sym, ap, subst, subst₂, _∙_}
+use mathlib.Core.Path.{_≡_, refl, sym, subst, subst₂, _∙_}
 use mathlib.Core.List.{List}
 use Prim.Native.Nat.{ℕ}
-use Rattle.rack.specs.Racks.{rack-digest}
 use Rattle.roll.specs.Roll.{Roll}
 use Rattle.statement.specs.declared.Statement.{Statement}
-use Rattle.rules.specs.declared.Head.{Head}
 use Rattle.desk.specs.Verdict.{height-in}
 use Rattle.safety.specs.Calls.{Keeper}
 use Rattle.safety.specs.Histories.{Event, keeper-after}
 use Rattle.safety.specs.Hashed.{Told-apart}
-use Rattle.safety.proofs.Views.{Reaches, Receipt, Vouched}
+use Rattle.safety.proofs.Views.{Reaches}
 use Rattle.safety.proofs.Tales.{Tale, Verdict-on}
-use Rattle.safety.proofs.Quorums.{Shared, shared, shared-of}
-use Rattle.safety.proofs.Offices.{Handover, Line, Leads, from-there, by-handover, Past, Office, said-called}
+use Rattle.safety.proofs.Quorums.{shared, shared-of}
+use Rattle.safety.proofs.Offices.{Handover, Line, Leads, from-there, by-handover, Office, said-called}
 use Rattle.safety.proofs.Turns.{receipt-live, receipt-identity, receipt-own}
 use Rattle.safety.proofs.Keepers.{offices, Vouched-after, verdict-vouched}
-use Rattle.safety.proofs.Handovers.{rack-same, Inheritance, inheritance, Ordered, goes-on, goes-back, ordered}
+use Rattle.safety.proofs.Handovers.{rack-same, inheritance, Ordered, goes-on, goes-back, ordered}
 use Rattle.safety.proofs.Covered.{covered}
 
 module _ {start : List ℕ → Keeper} {h : List Event} (all : (key : List ℕ) → Office start h key (keeper-after start h key)) (apart : Told-apart start h) where

@@ -1,12 +1,10 @@
 -- Laws of what a roll shows: rows that are reached stay reached, and rolls with one string show the same. Assumes nothing.
-use mathlib.Core.Path.{_≡_, refl, sym, ap, ap₂, subst, _∙_}
-use mathlib.Core.Bool.{Bool, cond}
+use mathlib.Core.Path.{_≡_, refl, sym, ap, ap₂, _∙_}
+use mathlib.Core.Bool.{cond}
 use mathlib.Core.List.{List, [], _∷_}
 use Prim.Native.Nat.{ℕ, zero, suc, _+_, _*_, _≤_, _<_}
-use native.Mathlib.Nat.{zero-add, suc-add, not-suc-le-zero, le-of-suc-le-suc}
 use native.Mathlib.Omega.{arith}
 use lib.ListN.{take, drop}
-use lib.Seq.{take-nil}
 use Rattle.octets.specs.Strings.{same}
 use Rattle.octets.specs.Numbers.{number-of}
 use Rattle.rows.specs.Sizes.{label-bytes, tail-bytes, height-bytes, row-bytes}
@@ -17,7 +15,7 @@ use Rattle.rows.specs.Search.{held, or-else, first-of, find}
 use Rattle.rows.proofs.Searches.{first-is}
 use Rattle.roll.specs.Roll.{Roll}
 use Rattle.safety.specs.Hashed.{roll-string}
-use Rattle.safety.proofs.Views.{Seen, nothing, standing, seen-at, look, Reaches, Grows}
+use Rattle.safety.proofs.Views.{nothing, standing, seen-at, look, Reaches, Grows}
 
 -- what is reached in a roll is reached where it grew
 pub reached-on : {v w : Roll} {label : List ℕ} {height : ℕ} {tail : List ℕ} → Grows v w → Reaches v label height tail → Reaches w label height tail

@@ -5,19 +5,17 @@ use mathlib.Core.List.{List, [], _∷_}
 use Prim.Native.Nat.{ℕ}
 use native.Mathlib.Omega.{arith}
 use Rattle.roll.specs.Roll.{Roll}
-use Rattle.statement.specs.declared.Kind.{Kind}
 use Rattle.statement.specs.declared.Statement.{Statement}
-use Rattle.rules.specs.declared.Head.{Head}
-use Rattle.rules.specs.Record.{blank, prepared, active, finalised}
+use Rattle.rules.specs.Record.{blank, prepared, finalised}
 use Rattle.desk.specs.Verdict.{height-in}
 use Rattle.safety.specs.Calls.{Keeper}
 use Rattle.safety.specs.Histories.{Event, called, keeper-after, _∈_, at-front, behind}
 use Rattle.safety.specs.Hashed.{Hashed, rack-string, roll-string, roll-in}
-use Rattle.safety.proofs.Views.{Seen, standing, look, Reaches, Grows, Most, enter-of, leave-of, roll-name, Receipt, Same-office, Notes, Founding, Preparing, Noting, Closing, Handed, Activating, Idle, Waking}
+use Rattle.safety.proofs.Views.{standing, look, Reaches, Grows, enter-of, leave-of, roll-name, Receipt, Same-office, Notes, Founding, Preparing, Noting, Closing, Activating, Idle}
 use Rattle.safety.proofs.Tales.{Said, before-said}
 use Rattle.safety.proofs.Sights.{reached-on, reached-here, grows-here, grows-on, reached-tail}
-use Rattle.safety.proofs.Quorums.{Shared, shared}
-use Rattle.safety.proofs.Offices.{Hands, Handover, Line, Leads, from-there, by-handover, Live, is-active, is-finalised, Stands, entering, leaving, noting, Past, Heritage, from-first, inherited, Office, most-map, handover-on, line-on, stands-on, no-receipt-enters, no-receipt-leaves, kinds-apart, said-called}
+use Rattle.safety.proofs.Quorums.{shared}
+use Rattle.safety.proofs.Offices.{Handover, Leads, from-there, by-handover, Live, is-active, is-finalised, Stands, entering, leaving, noting, Past, Heritage, from-first, inherited, Office, most-map, handover-on, line-on, stands-on, no-receipt-enters, no-receipt-leaves, kinds-apart, said-called}
 
 pub none-in : {v : Statement} {l : List Statement} → v ∈ l → l ≡ [] → ⊥
 none-in at-front e = let z : _≡_ {A = ℕ} 0 1 = cc in omega arith
