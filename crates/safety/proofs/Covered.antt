@@ -12,7 +12,7 @@ use Rattle.safety.proofs.Views.{Reaches}
 use Rattle.safety.proofs.Sights.{reached-on, reached-in}
 use Rattle.safety.proofs.Quorums.{shared-of}
 use Rattle.safety.proofs.Offices.{Hands, Handover, Line, from-there, by-handover, is-finalised, Office}
-use Rattle.safety.proofs.Turns.{receipt-reaches}
+use Rattle.safety.proofs.Turns.{noted-stands}
 use Rattle.safety.proofs.Keepers.{Vouched-after}
 use Rattle.safety.proofs.Handovers.{rack-same, roll-same, inheritance, left-by-said}
 
@@ -22,7 +22,7 @@ module _ {start : List ℕ → Keeper} {h : List Event} (all : (key : List ℕ) 
   handed-on : {identity previous own : List ℕ} {roll : Roll} (key : List ℕ) → Hands start h identity previous own roll key
       → Reaches (roll-in (keeper-after start h key)) label height tail → Reaches roll label height tail
   handed-on key g r =
-      let left = left-by-said all apart key (g .said) in
+      let left = left-by-said all key (g .said) in
       let e = roll-same apart (g .last) (roll-in (keeper-after start h key)) (left .roll-is) (g .hashed) (left .hashed) in
       reached-on (g .grew) (reached-in {w = g .last} (sym e) r)
 
@@ -32,7 +32,7 @@ module _ {start : List ℕ → Keeper} {h : List Event} (all : (key : List ℕ) 
   handed-over {previous = previous} g g' under =
       let e = rack-same apart previous (g .new) (g' .old) (g .new-is) (g' .old-is) (g .new-hashed) (g' .old-hashed) in
       let z = shared-of e (g .entered) (g' .handed) in
-      let left = left-by-said all apart (z .key) (z .right .said) in
+      let left = left-by-said all (z .key) (z .right .said) in
       let i = inheritance all apart (z .key) g (z .left) (is-finalised (left .is)) in
       handed-on (z .key) (z .right) (reached-on (i .grew) (under (i .roll) (i .handover)))
 
@@ -43,7 +43,7 @@ module _ {start : List ℕ → Keeper} {h : List Event} (all : (key : List ℕ) 
   covered-first p g =
       let e = rack-same apart (v .own) (f .rack) (g .old) (f .rack-is) (p ∙ g .old-is) (f .rack-hashed) (g .old-hashed) in
       let z = shared-of e (f .vouches) (g .handed) in
-      handed-on all apart (z .key) (z .right) (receipt-reaches (all (z .key) .stands v (z .left)) (f .receipt))
+      handed-on all apart (z .key) (z .right) (noted-stands (all (z .key) .stands v (z .left)) (f .receipt) .reaches)
 
   pub covered : {identity first previous own : List ℕ} {roll : Roll} → v .own ≡ first → Line start h identity first previous → Handover start h identity previous own roll
       → Reaches roll (v .label) (height-in (v .kind)) (v .tail)

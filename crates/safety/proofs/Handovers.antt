@@ -47,18 +47,23 @@ pub record Inheritance (start : List ℕ → Keeper) (h : List Event) (key : Lis
   pub grew : Grows roll (roll-in k)
   pub past : (w : Statement) → Said start key w h → Receipt (w .kind) → Past roll w
 
-module _ {start : List ℕ → Keeper} {h : List Event} (all : (key : List ℕ) → Office start h key (keeper-after start h key)) (apart : Told-apart start h) where
-  inherits : {key : List ℕ} {k : Keeper} {identity previous own : List ℕ} → (previous ≡ no-digest → ⊥) → Entered k identity previous own
-      → Heritage start h key k → Inheritance start h key k identity previous own
-  inherits z d (from-first p) = absurd (z (d .previous-is ∙ p))
-  inherits z d (inherited roll g grew past) =
-      record
-      { roll = roll
-      ; handover = subst₃ (λ a b c. Handover start h a b c roll) (sym (d .identity-is)) (sym (d .previous-is)) (sym (d .own-is)) g
-      ; grew = grew
-      ; past = past
-      }
+inherits : {start : List ℕ → Keeper} {h : List Event} {key : List ℕ} {k : Keeper} {identity previous own : List ℕ}
+    → (previous ≡ no-digest → ⊥) → Entered k identity previous own → Heritage start h key k → Inheritance start h key k identity previous own
+inherits z d (from-first p) = absurd (z (d .previous-is ∙ p))
+inherits {start} {h} z d (inherited roll g grew past) =
+    record
+    { roll = roll
+    ; handover = subst₃ (λ a b c. Handover start h a b c roll) (sym (d .identity-is)) (sym (d .previous-is)) (sym (d .own-is)) g
+    ; grew = grew
+    ; past = past
+    }
 
+pub left-by-said : {start : List ℕ → Keeper} {h : List Event} (all : (key : List ℕ) → Office start h key (keeper-after start h key))
+    (key : List ℕ) {identity own next roll : List ℕ} → Said start key (leave-of identity own next roll) h
+    → Left start h (keeper-after start h key) identity own next roll
+left-by-said all key s = left-stands (all key .stands _ s)
+
+module _ {start : List ℕ → Keeper} {h : List Event} (all : (key : List ℕ) → Office start h key (keeper-after start h key)) (apart : Told-apart start h) where
   pub inheritance : (key : List ℕ) {identity previous own : List ℕ} {roll : Roll} → Handover start h identity previous own roll
       → Said start key (enter-of identity previous own (roll-name roll)) h → Live (keeper-after start h key)
       → Inheritance start h key (keeper-after start h key) identity previous own
@@ -66,16 +71,12 @@ module _ {start : List ℕ → Keeper} {h : List Event} (all : (key : List ℕ) 
       inherits (rack-not-zeros apart previous (g .old) (g .old-is) (g .old-hashed)) (entered-stands (all key .stands _ s))
       (all key .heritage (said-called s) l)
 
-  pub left-by-said : (key : List ℕ) {identity own next roll : List ℕ} → Said start key (leave-of identity own next roll) h
-      → Left start h (keeper-after start h key) identity own next roll
-  left-by-said key s = left-stands (all key .stands _ s)
-
   pub one-heir : {identity other previous own own' : List ℕ} {r r' : Roll}
       → Handover start h identity previous own r → Handover start h other previous own' r' → own ≡ own'
   one-heir {previous = previous} g g' =
       let e = rack-same apart previous (g .old) (g' .old) (g .old-is) (g' .old-is) (g .old-hashed) (g' .old-hashed) in
       let z = shared-of e (g .handed) (g' .handed) in
-      left-by-said (z .key) (z .left .said) .next-is ∙ sym (left-by-said (z .key) (z .right .said) .next-is)
+      left-by-said all (z .key) (z .left .said) .next-is ∙ sym (left-by-said all (z .key) (z .right .said) .next-is)
 
 -- a line's first step
 data First (start : List ℕ → Keeper) (h : List Event) (identity first own : List ℕ) : Type 0 where

@@ -16,7 +16,8 @@ use Rattle.safety.specs.Hashed.{Hashed, now-hashed, before-hashed, rack-
 use Rattle.safety.proofs.Views.{Vouched, Waking, founds, prepares, notes, closes, activates, idles}
 use Rattle.safety.proofs.Tales.{Said, before-said, says, Seen-as, Tale, begun, woken, acted, judged, Verdict-on}
 use Rattle.safety.proofs.Offices.{Office, most-map, said-called, said-judged, Said-at, said-here, said-earlier, said-at}
-use Rattle.safety.proofs.Turns.{Told, told-now, told-before, none-in, live-not-blank, unsaid-office, quiet-office, founding-office, preparing-office, noting-office, closing-office, activating-office, idle-office}
+use Rattle.safety.proofs.Turns.{Told, told-now, told-before, none-in, live-high}
+use Rattle.safety.proofs.Turns.{unsaid-office, quiet-office, founding-office, preparing-office, noting-office, closing-office, activating-office, idle-office}
 
 false-true : _≡_ {A = Bool} false true → ⊥
 false-true e = let z : _≡_ {A = ℕ} 0 1 = cc in omega arith
@@ -77,7 +78,7 @@ module _ {start : List ℕ → Keeper} {h : List Event} where
   woken-here : (key : List ℕ) (call : Call) → called key h ≡ false
       → Waking (left-by key (keeper-after start h key) call) (says key (keeper-after start h key) call)
       → Office start (At key call ∷ h) key (left-by key (keeper-after start h key) call)
-  woken-here key call c w = unsaid-office (λ v s. wake-silent c (w .says) (told-at (said-at s))) (λ d l. live-not-blank l (w .is))
+  woken-here key call c w = unsaid-office (λ v s. wake-silent c (w .says) (told-at (said-at s))) (λ d l. omega (arith, live-high l, w .is))
 
   acted-here : (key : List ℕ) (call : Call) → called key h ≡ true → ((other : List ℕ) → Office start h other (keeper-after start h other))
       → Seen-as start h key call → Office start (At key call ∷ h) key (left-by key (keeper-after start h key) call)

@@ -12,20 +12,20 @@ use Rattle.safety.proofs.Views.{Reaches}
 use Rattle.safety.proofs.Tales.{Tale, Verdict-on}
 use Rattle.safety.proofs.Quorums.{shared, shared-of}
 use Rattle.safety.proofs.Offices.{Handover, Line, Leads, from-there, by-handover, Office, said-called}
-use Rattle.safety.proofs.Turns.{receipt-live, receipt-identity, receipt-own}
+use Rattle.safety.proofs.Turns.{noted-stands}
 use Rattle.safety.proofs.Keepers.{offices, Vouched-after, verdict-vouched}
 use Rattle.safety.proofs.Handovers.{rack-same, inheritance, Ordered, goes-on, goes-back, ordered}
 use Rattle.safety.proofs.Covered.{covered}
 
-module _ {start : List ℕ → Keeper} {h : List Event} (all : (key : List ℕ) → Office start h key (keeper-after start h key)) (apart : Told-apart start h) where
+module _ {start : List ℕ → Keeper} {h : List Event} (all : (key : List ℕ) → Office start h key (keeper-after start h key)) where
   -- handovers lead to the rack of a verdict
   led : {v : Statement} → Vouched-after start h v → Leads start h (v .identity) (v .own)
   led {v} f =
       let z = shared (f .vouches) (f .vouches) in
-      let s = all (z .key) .stands v (z .left) in
-      subst₂ (λ x y. Leads start h x y) (sym (receipt-identity s (f .receipt))) (sym (receipt-own s (f .receipt)))
-      (all (z .key) .leads (said-called (z .left)) (receipt-live s (f .receipt)))
+      let n = noted-stands (all (z .key) .stands v (z .left)) (f .receipt) in
+      subst₂ (λ x y. Leads start h x y) (sym (n .identity-is)) (sym (n .own-is)) (all (z .key) .leads (said-called (z .left)) (n .live))
 
+module _ {start : List ℕ → Keeper} {h : List Event} (all : (key : List ℕ) → Office start h key (keeper-after start h key)) (apart : Told-apart start h) where
   module _ {v w : Statement} (f : Vouched-after start h v) (g : Vouched-after start h w) (l : v .label ≡ w .label) (t : height-in (v .kind) ≡ height-in (w .kind)) where
     -- in one rack
     one-rack : v .own ≡ w .own → v .tail ≡ w .tail
@@ -40,7 +40,7 @@ module _ {start : List ℕ → Keeper} {h : List Event} (all : (key : List ℕ) 
     later-rack {own = own} p line k =
         let e = rack-same apart own (k .new) (g .rack) (k .new-is) (p ∙ g .rack-is) (k .new-hashed) (g .rack-hashed) in
         let z = shared-of e (k .entered) (g .vouches) in
-        let i = inheritance all apart (z .key) k (z .left) (receipt-live (all (z .key) .stands w (z .right)) (g .receipt)) in
+        let i = inheritance all apart (z .key) k (z .left) (noted-stands (all (z .key) .stands w (z .right)) (g .receipt) .live) in
         let r = covered all apart f refl line (i .handover) in
         i .past w (z .right) (g .receipt) .past (height-in (v .kind)) (v .tail)
         (subst (λ (x : List ℕ). Reaches (i .roll) x (height-in (v .kind)) (v .tail)) l r) t
@@ -60,5 +60,5 @@ tale-safe start h tale apart v w d d' i l t =
     let all = offices tale in
     let f = verdict-vouched tale d in
     let g = verdict-vouched tale d' in
-    let line : Line start h (w .identity) (w .identity) (v .own) = subst (λ (x : List ℕ). Leads start h x (v .own)) i (led all apart f) in
-    either-way all apart f g l t (ordered all apart line (led all apart g))
+    let line : Line start h (w .identity) (w .identity) (v .own) = subst (λ (x : List ℕ). Leads start h x (v .own)) i (led all f) in
+    either-way all apart f g l t (ordered all apart line (led all g))

@@ -2,20 +2,22 @@
 use mathlib.Core.Path.{_≡_, refl, sym, ap, subst, subst₂, subst₃, _∙_}
 use mathlib.Core.Bool.{true}
 use mathlib.Core.List.{List, [], _∷_}
-use Prim.Native.Nat.{ℕ}
+use Prim.Native.Nat.{ℕ, _≤_}
 use native.Mathlib.Omega.{arith}
 use Rattle.roll.specs.Roll.{Roll}
 use Rattle.statement.specs.declared.Statement.{Statement}
-use Rattle.rules.specs.Record.{blank, prepared, finalised}
+use Rattle.rules.specs.Record.{blank, active, finalised}
 use Rattle.desk.specs.Verdict.{height-in}
 use Rattle.safety.specs.Calls.{Keeper}
 use Rattle.safety.specs.Histories.{Event, called, keeper-after, _∈_, at-front, behind}
 use Rattle.safety.specs.Hashed.{Hashed, rack-string, roll-string, roll-in}
-use Rattle.safety.proofs.Views.{standing, look, Reaches, Grows, enter-of, leave-of, roll-name, Receipt, Same-office, Notes, Founding, Preparing, Noting, Closing, Activating, Idle}
+use Rattle.safety.proofs.Views.{standing, look, Reaches, Grows, enter-of, leave-of, roll-name, Receipt}
+use Rattle.safety.proofs.Views.{Same-office, Notes, Founding, Preparing, Noting, Closing, Activating, Idle}
 use Rattle.safety.proofs.Tales.{Said, before-said}
 use Rattle.safety.proofs.Sights.{reached-on, reached-here, grows-here, grows-on, reached-tail}
 use Rattle.safety.proofs.Quorums.{shared}
-use Rattle.safety.proofs.Offices.{Handover, Leads, from-there, by-handover, Live, is-active, is-finalised, Stands, entering, leaving, noting, Past, Heritage, from-first, inherited, Office, most-map, handover-on, line-on, stands-on, no-receipt-enters, no-receipt-leaves, kinds-apart, said-called}
+use Rattle.safety.proofs.Offices.{Handover, Leads, from-there, by-handover, Live, is-active, is-finalised, Stands, entering, leaving, noting, Past, Heritage, from-first, inherited, Office}
+use Rattle.safety.proofs.Offices.{most-map, handover-on, line-on, stands-on, no-receipt-enters, no-receipt-leaves, kinds-apart, said-called}
 
 pub none-in : {v : Statement} {l : List Statement} → v ∈ l → l ≡ [] → ⊥
 none-in at-front e = let z : _≡_ {A = ℕ} 0 1 = cc in omega arith
@@ -25,40 +27,26 @@ one-in : {v x : Statement} {l : List Statement} → v ∈ l → l ≡ x ∷ [] �
 one-in at-front e = cc
 one-in (behind {y} {l} m) e = let p : l ≡ [] = cc in absurd (none-in m p)
 
-pub live-not-blank : {k : Keeper} → Live k → k .head .status ≡ blank → ⊥
-live-not-blank (is-active p) e = omega arith
-live-not-blank (is-finalised p) e = omega arith
+pub live-high : {k : Keeper} → Live k → active ≤ k .head .status
+live-high (is-active p) = omega arith
+live-high (is-finalised p) = omega arith
 
-live-not-prepared : {k : Keeper} → Live k → k .head .status ≡ prepared → ⊥
-live-not-prepared (is-active p) e = omega arith
-live-not-prepared (is-finalised p) e = omega arith
+stands-not-blank : {start : List ℕ → Keeper} {h : List Event} {k : Keeper} {v : Statement} → Stands start h k v → k .head .status ≡ blank → ⊥
+stands-not-blank (entering roll p q) e = p e
+stands-not-blank (leaving p d q) e = omega arith
+stands-not-blank (noting l r p q s) e = omega (arith, live-high l)
 
-module _ {start : List ℕ → Keeper} {h : List Event} {k : Keeper} {v : Statement} where
-  stands-not-blank : Stands start h k v → k .head .status ≡ blank → ⊥
-  stands-not-blank (entering roll p q) e = p e
-  stands-not-blank (leaving p d q) e = omega arith
-  stands-not-blank (noting l r p q s) e = live-not-blank l e
+-- what a receipt that was said says of the record
+pub record Noted (k : Keeper) (v : Statement) : Type 0 where
+  pub live : Live k
+  pub identity-is : v .identity ≡ k .head .identity
+  pub own-is : v .own ≡ k .head .own
+  pub reaches : Reaches (roll-in k) (v .label) (height-in (v .kind)) (v .tail)
 
-  -- what a receipt that was said says of the record
-  pub receipt-live : Stands start h k v → Receipt (v .kind) → Live k
-  receipt-live (entering roll p q) r = absurd (no-receipt-enters r (ap (λ (x : Statement). x .kind) q))
-  receipt-live (leaving p d q) r = absurd (no-receipt-leaves r (ap (λ (x : Statement). x .kind) q))
-  receipt-live (noting l r' p q s) r = l
-
-  pub receipt-identity : Stands start h k v → Receipt (v .kind) → v .identity ≡ k .head .identity
-  receipt-identity (entering roll p q) r = absurd (no-receipt-enters r (ap (λ (x : Statement). x .kind) q))
-  receipt-identity (leaving p d q) r = absurd (no-receipt-leaves r (ap (λ (x : Statement). x .kind) q))
-  receipt-identity (noting l r' p q s) r = p
-
-  pub receipt-own : Stands start h k v → Receipt (v .kind) → v .own ≡ k .head .own
-  receipt-own (entering roll p q) r = absurd (no-receipt-enters r (ap (λ (x : Statement). x .kind) q))
-  receipt-own (leaving p d q) r = absurd (no-receipt-leaves r (ap (λ (x : Statement). x .kind) q))
-  receipt-own (noting l r' p q s) r = q
-
-  pub receipt-reaches : Stands start h k v → Receipt (v .kind) → Reaches (roll-in k) (v .label) (height-in (v .kind)) (v .tail)
-  receipt-reaches (entering roll p q) r = absurd (no-receipt-enters r (ap (λ (x : Statement). x .kind) q))
-  receipt-reaches (leaving p d q) r = absurd (no-receipt-leaves r (ap (λ (x : Statement). x .kind) q))
-  receipt-reaches (noting l r' p q s) r = s
+pub noted-stands : {start : List ℕ → Keeper} {h : List Event} {k : Keeper} {v : Statement} → Stands start h k v → Receipt (v .kind) → Noted k v
+noted-stands (entering roll p q) r = absurd (no-receipt-enters r (ap (λ (x : Statement). x .kind) q))
+noted-stands (leaving p d q) r = absurd (no-receipt-leaves r (ap (λ (x : Statement). x .kind) q))
+noted-stands (noting l r' p q s) r = record { live = l; identity-is = p; own-is = q; reaches = s }
 
 -- what a finalise statement that was said says of the record
 pub record Left (start : List ℕ → Keeper) (h : List Event) (k : Keeper) (identity own next roll : List ℕ) : Type 0 where
@@ -184,7 +172,7 @@ module _ {start : List ℕ → Keeper} {h : List Event} (e : Event) {key : List 
   pub preparing-office : {Hashes : List ℕ → Type 0} → Preparing Hashes k k' said → Office start (e ∷ h) key k'
   preparing-office f =
       first-office (f .was) (λ z. omega (arith, f .is)) (f .says)
-      (λ l. absurd (live-not-prepared l (f .is))) (λ l. absurd (live-not-prepared l (f .is)))
+      (λ l. absurd (omega (arith, live-high l, f .is))) (λ l. absurd (omega (arith, live-high l, f .is)))
 
   -- a keeper that goes on: what it says now stands, and its receipts show its rows
   module _ (t : Stays k k') (fresh : (v : Statement) → v ∈ said → Stands start (e ∷ h) k' v)
@@ -196,10 +184,10 @@ module _ {start : List ℕ → Keeper} {h : List Event} (e : Event) {key : List 
     stay-one-tail : (v w : Statement) → Told start h key said v → Told start h key said w → Receipt (v .kind) → Receipt (w .kind)
         → v .label ≡ w .label → height-in (v .kind) ≡ height-in (w .kind) → v .tail ≡ w .tail
     stay-one-tail v w (told-now m) d r q l g =
-        sym (reached-tail (receipt-reaches (stay-stands w d) q)
+        sym (reached-tail (noted-stands (stay-stands w d) q .reaches)
         (ap (look (roll-in k')) (sym l) ∙ notes v m r .shows ∙ ap (λ (x : ℕ). standing x (v .tail)) g))
     stay-one-tail v w (told-before s) (told-now m) r q l g =
-        reached-tail (receipt-reaches (stay-stands v (told-before s)) r)
+        reached-tail (noted-stands (stay-stands v (told-before s)) r .reaches)
         (ap (look (roll-in k')) l ∙ notes w m q .shows ∙ ap (λ (x : ℕ). standing x (w .tail)) (sym g))
     stay-one-tail v w (told-before s) (told-before u) r q l g = office .one-tail v w s u r q l g
 
@@ -279,7 +267,7 @@ module _ {start : List ℕ → Keeper} {h : List Event} (e : Event) {key : List 
 
       prepared-past : Activating Hashes (λ other v. Said start other v h) k k' said → (w : Statement) → Told start h key said w → Receipt (w .kind) → Past (roll-in k) w
       prepared-past a w (told-now m) r = absurd (none-in m (a .says))
-      prepared-past a w (told-before s) r = absurd (live-not-prepared (receipt-live (office .stands w s) r) (a .was))
+      prepared-past a w (told-before s) r = absurd (omega (arith, live-high (noted-stands (office .stands w s) r .live), a .was))
 
       pub activating-office : Activating Hashes (λ other v. Said start other v h) k k' said → Office start (e ∷ h) key k'
       activating-office a =
