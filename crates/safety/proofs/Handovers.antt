@@ -51,11 +51,11 @@ inherits : {start : List ℕ → Keeper} {h : List Event} {key : List ℕ} {k : 
     → (previous ≡ no-digest → ⊥) → Entered k identity previous own → Heritage start h key k → Inheritance start h key k identity previous own
 inherits z d (from-first p) = absurd (z (d .previous-is ∙ p))
 inherits {start} {h} z d (inherited roll g grew past) =
-    record
-    { roll = roll
-    ; handover = subst₃ (λ a b c. Handover start h a b c roll) (sym (d .identity-is)) (sym (d .previous-is)) (sym (d .own-is)) g
-    ; grew = grew
-    ; past = past
+    record {
+      roll = roll;
+      handover = subst₃ (λ a b c. Handover start h a b c roll) (sym (d .identity-is)) (sym (d .previous-is)) (sym (d .own-is)) g;
+      grew = grew;
+      past = past;
     }
 
 pub left-by-said : {start : List ℕ → Keeper} {h : List Event} (all : (key : List ℕ) → Office start h key (keeper-after start h key))

@@ -121,12 +121,12 @@ module _ {start : List ℕ → Keeper} {h : List Event} (e : Event) {v : Stateme
   vouched-from : {Hashes : List ℕ → Type 0} → ((s : List ℕ) → Hashes s → Hashed start s (e ∷ h))
       → Vouched Hashes (λ key w. Said start key w h) v → Vouched-after start (e ∷ h) v
   vouched-from hashes f =
-      record
-      { receipt = f .receipt
-      ; rack = f .rack
-      ; rack-is = f .rack-is
-      ; rack-hashed = hashes (rack-string (f .rack)) (f .rack-hashed)
-      ; vouches = most-map (λ key s. before-said s) (f .vouches)
+      record {
+        receipt = f .receipt;
+        rack = f .rack;
+        rack-is = f .rack-is;
+        rack-hashed = hashes (rack-string (f .rack)) (f .rack-hashed);
+        vouches = most-map (λ key s. before-said s) (f .vouches);
       }
 
 -- which verdict of a history

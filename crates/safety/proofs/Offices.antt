@@ -42,7 +42,7 @@ pub record Handover (start : List ℕ → Keeper) (h : List Event) (identity pre
 pub data Line (start : List ℕ → Keeper) (h : List Event) (identity first : List ℕ) : List ℕ → Type 0 where
   from-there : Line start h identity first first
   by-handover : {previous own : List ℕ} (roll : Roll) → Line start h identity first previous → Handover start h identity previous own roll
-    → Line start h identity first own
+      → Line start h identity first own
 
 -- and from its founding rack, whose digest is the identity
 abbrev pub Leads : (List ℕ → Keeper) → List Event → List ℕ → List ℕ → Type 0
@@ -57,9 +57,9 @@ pub data Live (k : Keeper) : Type 0 where
 pub data Stands (start : List ℕ → Keeper) (h : List Event) (k : Keeper) (v : Statement) : Type 0 where
   entering : (roll : List ℕ) → (k .head .status ≡ blank → ⊥) → v ≡ enter-of (k .head .identity) (k .head .previous) (k .head .own) roll → Stands start h k v
   leaving : k .head .status ≡ finalised → Hashed start (roll-string (roll-in k)) h
-    → v ≡ leave-of (k .head .identity) (k .head .own) (k .head .next) (roll-name (roll-in k)) → Stands start h k v
+      → v ≡ leave-of (k .head .identity) (k .head .own) (k .head .next) (roll-name (roll-in k)) → Stands start h k v
   noting : Live k → Receipt (v .kind) → v .identity ≡ k .head .identity → v .own ≡ k .head .own
-    → Reaches (roll-in k) (v .label) (height-in (v .kind)) (v .tail) → Stands start h k v
+      → Reaches (roll-in k) (v .label) (height-in (v .kind)) (v .tail) → Stands start h k v
 
 -- where a roll reaches the height of a receipt's label, it has the receipt's tail
 pub record Past (roll : Roll) (w : Statement) : Type 0 where
@@ -69,12 +69,12 @@ pub record Past (roll : Roll) (w : Statement) : Type 0 where
 pub data Heritage (start : List ℕ → Keeper) (h : List Event) (key : List ℕ) (k : Keeper) : Type 0 where
   from-first : k .head .previous ≡ no-digest → Heritage start h key k
   inherited : (roll : Roll) → Handover start h (k .head .identity) (k .head .previous) (k .head .own) roll → Grows roll (roll-in k)
-    → ((w : Statement) → Said start key w h → Receipt (w .kind) → Past roll w) → Heritage start h key k
+      → ((w : Statement) → Said start key w h → Receipt (w .kind) → Past roll w) → Heritage start h key k
 
 pub record Office (start : List ℕ → Keeper) (h : List Event) (key : List ℕ) (k : Keeper) : Type 0 where
   pub stands : (v : Statement) → Said start key v h → Stands start h k v
   pub one-tail : (v w : Statement) → Said start key v h → Said start key w h → Receipt (v .kind) → Receipt (w .kind)
-    → v .label ≡ w .label → height-in (v .kind) ≡ height-in (w .kind) → v .tail ≡ w .tail
+      → v .label ≡ w .label → height-in (v .kind) ≡ height-in (w .kind) → v .tail ≡ w .tail
   pub leads : called key h ≡ true → Live k → Leads start h (k .head .identity) (k .head .own)
   pub heritage : called key h ≡ true → Live k → Heritage start h key k
 
@@ -90,15 +90,15 @@ module _ {start : List ℕ → Keeper} {h : List Event} (e : Event) where
 
   pub handover-on : {identity previous own : List ℕ} {roll : Roll} → Handover start h identity previous own roll → Handover start (e ∷ h) identity previous own roll
   handover-on g =
-      record
-      { old = g .old
-      ; old-is = g .old-is
-      ; old-hashed = before-hashed (g .old-hashed)
-      ; new = g .new
-      ; new-is = g .new-is
-      ; new-hashed = before-hashed (g .new-hashed)
-      ; handed = most-map hands-on (g .handed)
-      ; entered = most-map (λ key s. before-said s) (g .entered)
+      record {
+        old = g .old;
+        old-is = g .old-is;
+        old-hashed = before-hashed (g .old-hashed);
+        new = g .new;
+        new-is = g .new-is;
+        new-hashed = before-hashed (g .new-hashed);
+        handed = most-map hands-on (g .handed);
+        entered = most-map (λ key s. before-said s) (g .entered);
       }
 
   pub line-on : {identity first own : List ℕ} → Line start h identity first own → Line start (e ∷ h) identity first own

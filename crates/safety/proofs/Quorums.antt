@@ -34,9 +34,11 @@ topped f (suc m) bound r = go (decLt (f m) bound)
   where
     last : f m < suc bound
     last = r .below m (omega arith)
+
     under : f m < bound → (i : ℕ) → i < suc m → Dec (i < m) → f i < bound
     under l i h (yes k) = omega (arith, earlier f (suc m) (suc bound) r i m k (omega arith))
     under l i h (no g) = let e : m ≡ i = omega arith in subst (λ (x : ℕ). f x < bound) e l
+
     go : Dec (f m < bound) → Topped f (suc m) bound
     go (yes l) = short (record { below = λ i h. under l i h (decLt i m); rising = r .rising })
     go (no g) =
@@ -78,10 +80,10 @@ ordered a = record { below = a .below; rising = a .rising }
 pub shared : {rack : List ℕ} {P Q : List ℕ → Type 0} → Most rack P → Most rack Q → Shared P Q
 shared {rack} {P} {Q} a b =
     let t = meeting (rack-cut rack .count) (a .position) (b .position) (a .count) (b .count) (ordered a) (ordered b) (omega (arith, a .enough, b .enough)) in
-    record
-    { key = key-at rack (a .position (t .one))
-    ; left = a .each-one (t .one) (t .one-below)
-    ; right = subst (λ (p : ℕ). Q (key-at rack p)) (sym (t .meets)) (b .each-one (t .other) (t .other-below))
+    record {
+      key = key-at rack (a .position (t .one));
+      left = a .each-one (t .one) (t .one-below);
+      right = subst (λ (p : ℕ). Q (key-at rack p)) (sym (t .meets)) (b .each-one (t .other) (t .other-below));
     }
 
 -- one rack under two names

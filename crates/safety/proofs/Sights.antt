@@ -21,12 +21,12 @@ use Rattle.safety.proofs.Views.{nothing, standing, seen-at, look, Reach
 pub reached-on : {v w : Roll} {label : List ℕ} {height : ℕ} {tail : List ℕ} → Grows v w → Reaches v label height tail → Reaches w label height tail
 reached-on {label = label} g r =
     let s = g .reaches label (r .top) (r .last) (r .shows) in
-    record
-    { top = s .top
-    ; last = s .last
-    ; shows = s .shows
-    ; up = omega (arith, r .up, s .up)
-    ; agrees = λ e. r .agrees (omega (arith, r .up, s .up)) ∙ s .agrees (omega (arith, r .up, s .up))
+    record {
+      top = s .top;
+      last = s .last;
+      shows = s .shows;
+      up = omega (arith, r .up, s .up);
+      agrees = λ e. r .agrees (omega (arith, r .up, s .up)) ∙ s .agrees (omega (arith, r .up, s .up));
     }
 
 pub reached-here : {v : Roll} {label : List ℕ} {height : ℕ} {tail : List ℕ} → look v label ≡ standing height tail → Reaches v label height tail
@@ -104,7 +104,7 @@ unfolding look find
 look-same v w e label =
     let c = string-count v w e in
     let r : take (row-bytes * held (v .count) (v .rows)) (v .rows) ≡ take (row-bytes * held (v .count) (v .rows)) (w .rows)
-          = string-rows v w e ∙ ap (λ (n : ℕ). take (row-bytes * n) (w .rows)) (sym c) in
+    = string-rows v w e ∙ ap (λ (n : ℕ). take (row-bytes * n) (w .rows)) (sym c) in
     find-same (held (v .count) (v .rows)) (v .rows) (w .rows) r label ∙ ap (λ (n : ℕ). seen-at (w .rows) (first-of n (w .rows) label)) c
 
 pub reached-in : {v w : Roll} {label : List ℕ} {height : ℕ} {tail : List ℕ} → roll-string v ≡ roll-string w → Reaches v label height tail → Reaches w label height tail

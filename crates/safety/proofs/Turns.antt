@@ -61,13 +61,13 @@ pub left-stands : {start : List ℕ → Keeper} {h : List Event} {k : Keeper} {i
     → Stands start h k (leave-of identity own next roll) → Left start h k identity own next roll
 left-stands (entering r p q) = absurd (kinds-apart (sym (ap (λ (x : Statement). x .kind) q)))
 left-stands (leaving p d q) =
-    record
-    { is = p
-    ; identity-is = ap (λ (x : Statement). x .identity) q
-    ; own-is = ap (λ (x : Statement). x .own) q
-    ; next-is = ap (λ (x : Statement). x .other) q
-    ; roll-is = ap (λ (x : Statement). x .roll) q
-    ; hashed = d
+    record {
+      is = p;
+      identity-is = ap (λ (x : Statement). x .identity) q;
+      own-is = ap (λ (x : Statement). x .own) q;
+      next-is = ap (λ (x : Statement). x .other) q;
+      roll-is = ap (λ (x : Statement). x .roll) q;
+      hashed = d;
     }
 left-stands (noting l r p q s) = absurd (no-receipt-leaves r refl)
 
@@ -117,11 +117,11 @@ module _ {start : List ℕ → Keeper} {h : List Event} (e : Event) {k k' : Keep
 pub unsaid-office : {start : List ℕ → Keeper} {h : List Event} {key : List ℕ} {k : Keeper}
     → ((v : Statement) → Said start key v h → ⊥) → (called key h ≡ true → Live k → ⊥) → Office start h key k
 unsaid-office silent idle =
-    record
-    { stands = λ v s. absurd (silent v s)
-    ; one-tail = λ v w s t r q l g. absurd (silent v s)
-    ; leads = λ c l. absurd (idle c l)
-    ; heritage = λ c l. absurd (idle c l)
+    record {
+      stands = λ v s. absurd (silent v s);
+      one-tail = λ v w s t r q l g. absurd (silent v s);
+      leads = λ c l. absurd (idle c l);
+      heritage = λ c l. absurd (idle c l);
     }
 
 -- an event that is none of this keeper's
@@ -133,11 +133,11 @@ module _ {start : List ℕ → Keeper} {h : List Event} (e : Event) {key : List 
 
   pub quiet-office : (called key (e ∷ h) ≡ true → called key h ≡ true) → Office start h key k → Office start (e ∷ h) key k
   quiet-office c office =
-      record
-      { stands = λ v s. stands-on e (office .stands v (back v s))
-      ; one-tail = λ v w s t r q l g. office .one-tail v w (back v s) (back w t) r q l g
-      ; leads = λ d l. line-on e (office .leads (c d) l)
-      ; heritage = λ d l. heritage-on (office .heritage (c d) l)
+      record {
+        stands = λ v s. stands-on e (office .stands v (back v s));
+        one-tail = λ v w s t r q l g. office .one-tail v w (back v s) (back w t) r q l g;
+        leads = λ d l. line-on e (office .leads (c d) l);
+        heritage = λ d l. heritage-on (office .heritage (c d) l);
       }
 
 -- a keeper that was blank has said one thing
@@ -156,11 +156,11 @@ module _ {start : List ℕ → Keeper} {h : List Event} (e : Event) {key : List 
       → (Live k' → Leads start (e ∷ h) (k' .head .identity) (k' .head .own)) → (Live k' → Heritage start (e ∷ h) key k')
       → Office start (e ∷ h) key k'
   first-office b n p l g =
-      record
-      { stands = λ v s. entering (roll-name (roll-in k')) n (blank-told office b p (tells v s))
-      ; one-tail = λ v w s t r q a c. absurd (no-receipt-enters r (ap (λ (x : Statement). x .kind) (blank-told office b p (tells v s))))
-      ; leads = λ c d. l d
-      ; heritage = λ c d. g d
+      record {
+        stands = λ v s. entering (roll-name (roll-in k')) n (blank-told office b p (tells v s));
+        one-tail = λ v w s t r q a c. absurd (no-receipt-enters r (ap (λ (x : Statement). x .kind) (blank-told office b p (tells v s))));
+        leads = λ c d. l d;
+        heritage = λ c d. g d;
       }
 
   pub founding-office : Founding k k' said → Office start (e ∷ h) key k'
@@ -194,11 +194,11 @@ module _ {start : List ℕ → Keeper} {h : List Event} (e : Event) {key : List 
     stay-office : (Live k' → Leads start (e ∷ h) (k' .head .identity) (k' .head .own)) → (Live k' → Heritage start (e ∷ h) key k')
         → Office start (e ∷ h) key k'
     stay-office l g =
-        record
-        { stands = λ v s. stay-stands v (tells v s)
-        ; one-tail = λ v w s u. stay-one-tail v w (tells v s) (tells w u)
-        ; leads = λ c d. l d
-        ; heritage = λ c d. g d
+        record {
+          stands = λ v s. stay-stands v (tells v s);
+          one-tail = λ v w s u. stay-one-tail v w (tells v s) (tells w u);
+          leads = λ c d. l d;
+          heritage = λ c d. g d;
         }
 
     stay-past : {roll : Roll} → Grows roll (roll-in k') → ((w : Statement) → Said start key w h → Receipt (w .kind) → Past roll w)
@@ -228,16 +228,16 @@ module _ {start : List ℕ → Keeper} {h : List Event} (e : Event) {key : List 
     pub closing-office : called key h ≡ true → Closing Hashes k k' said → Office start (e ∷ h) key k'
     closing-office c n =
         kept-office
-        (record
-         { stays = n .stays
-         ; grows = same-roll (roll-in k) (roll-in k') (n .roll-stays)
-         ; not-finalised = λ z. omega (arith, n .was)
-         ; not-blank = λ z. omega (arith, n .is)
-         ; live = λ l. is-finalised (n .is)
-         })
+        (record {
+          stays = n .stays;
+          grows = same-roll (roll-in k) (roll-in k') (n .roll-stays);
+          not-finalised = λ z. omega (arith, n .was);
+          not-blank = λ z. omega (arith, n .is);
+          live = λ l. is-finalised (n .is);
+        })
         (λ v m.
-           leaving (n .is) (subst (λ (r : Roll). Hashed start (roll-string r) (e ∷ h)) (sym (n .roll-stays)) (hashes (roll-string (roll-in k)) (n .roll-hashed)))
-           (one-in m (n .says) ∙ (λ i. leave-of (sym (n .stays .identity) i) (sym (n .stays .own) i) (k' .head .next) (roll-name (sym (n .roll-stays) i)))))
+        leaving (n .is) (subst (λ (r : Roll). Hashed start (roll-string r) (e ∷ h)) (sym (n .roll-stays)) (hashes (roll-string (roll-in k)) (n .roll-hashed)))
+        (one-in m (n .says) ∙ (λ i. leave-of (sym (n .stays .identity) i) (sym (n .stays .own) i) (k' .head .next) (roll-name (sym (n .roll-stays) i)))))
         (λ v m r. absurd (no-receipt-leaves r (ap (λ (x : Statement). x .kind) (one-in m (n .says)))))
         c (is-active (n .was))
 
@@ -246,15 +246,15 @@ module _ {start : List ℕ → Keeper} {h : List Event} (e : Event) {key : List 
       taken-over : Activating Hashes (λ other v. Said start other v h) k k' said
           → Handover start (e ∷ h) (k .head .identity) (k .head .previous) (k .head .own) (roll-in k)
       taken-over a =
-          record
-          { old = a .old
-          ; old-is = a .old-is
-          ; old-hashed = hashes (rack-string (a .old)) (a .old-hashed)
-          ; new = a .own
-          ; new-is = a .own-is
-          ; new-hashed = hashes (rack-string (a .own)) (a .own-hashed)
-          ; handed = most-map (λ other g. record { last = g .roll; hashed = hashes (roll-string (g .roll)) (g .hashed); said = before-said (g .said); grew = g .grew }) (a .handed)
-          ; entered = most-map (λ other s. before-said s) (a .entered)
+          record {
+            old = a .old;
+            old-is = a .old-is;
+            old-hashed = hashes (rack-string (a .old)) (a .old-hashed);
+            new = a .own;
+            new-is = a .own-is;
+            new-hashed = hashes (rack-string (a .own)) (a .own-hashed);
+            handed = most-map (λ other g. record { last = g .roll; hashed = hashes (roll-string (g .roll)) (g .hashed); said = before-said (g .said); grew = g .grew }) (a .handed);
+            entered = most-map (λ other s. before-said s) (a .entered);
           }
 
       -- an old keeper's handovers lead to the previous rack
@@ -272,13 +272,13 @@ module _ {start : List ℕ → Keeper} {h : List Event} (e : Event) {key : List 
       pub activating-office : Activating Hashes (λ other v. Said start other v h) k k' said → Office start (e ∷ h) key k'
       activating-office a =
           stay-office
-          (record
-           { stays = a .stays
-           ; grows = same-roll (roll-in k) (roll-in k') (a .roll-stays)
-           ; not-finalised = λ z. omega (arith, a .was)
-           ; not-blank = λ z. omega (arith, a .is)
-           ; live = λ l. is-active (a .is)
-           })
+          (record {
+            stays = a .stays;
+            grows = same-roll (roll-in k) (roll-in k') (a .roll-stays);
+            not-finalised = λ z. omega (arith, a .was);
+            not-blank = λ z. omega (arith, a .is);
+            live = λ l. is-active (a .is);
+          })
           (λ v m. absurd (none-in m (a .says))) (λ v m r. absurd (none-in m (a .says)))
           (λ l. leads-moves e (a .stays) (by-handover (roll-in k) (line-on e (led-there a)) (taken-over a)))
           (λ l. inherited (roll-in k) (handover-moves e (a .stays) (taken-over a)) (same-roll (roll-in k) (roll-in k') (a .roll-stays)) (λ w s r. prepared-past a w (tells w s) r))
