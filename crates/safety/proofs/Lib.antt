@@ -5,3 +5,11 @@ pub mod Ended
 pub mod SeenIdle
 pub mod Sizes
 pub mod SeenFinalise
+pub mod RowsParts
+pub mod RowsMoved
+pub mod RowsWidened
+pub mod Looks
+pub mod Derives
+pub mod SeenInitialise
+pub mod Vows
+pub mod SeenVerdict
