@@ -13,3 +13,10 @@ pub mod Derives
 pub mod SeenInitialise
 pub mod Vows
 pub mod SeenVerdict
+pub mod SeenActivate
+pub mod Rowed
+pub mod LooksChanged
+pub mod Receipts
+pub mod SeenNew
+pub mod SeenAppend
+pub mod SeenRead
