@@ -20,3 +20,5 @@ pub mod Receipts
 pub mod SeenNew
 pub mod SeenAppend
 pub mod SeenRead
+pub mod Kept
+pub mod Bridge
