@@ -2,19 +2,16 @@
 use mathlib.Core.Path.{_≡_, refl, sym, ap, subst, _∙_}
 use mathlib.Core.Bool.{Bool, true, false, not, cond}
 use mathlib.Core.List.{List, [], _∷_}
-use Prim.Native.Nat.{ℕ, _<_}
+use Prim.Native.Nat.{ℕ}
 use native.Mathlib.Omega.{arith}
 use borrow.Author.Tests.{eq-eqb}
-use lib.Dec.{eqb}
 use Rattle.refusals.specs.{accepted}
-use Rattle.statement.specs.declared.Statement.{Statement}
-use Rattle.desk.specs.declared.Finding.{Finding}
 use Rattle.desk.specs.Verdict.{Question, judging}
 use Rattle.safety.specs.Calls.{Keeper, Call, Wake, Initialise, New, Append, Read, Append-and-read, Finalise, Activate, Bytes-to-check, left-by, accepts, is-wake, Taken}
 use Rattle.safety.specs.Histories.{Event, At, Judged, keeper-after, called, _∈_, at-front}
 use Rattle.safety.specs.Chip.{Shown, Marked, Orderly, Lawful, at-first, and-then}
 use Rattle.safety.specs.Hashed.{rack-string, hashed-by, hashed-at}
-use Rattle.safety.proofs.Tales.{says, Said, Seen-as, Tale, begun, woken, acted, judged}
+use Rattle.safety.proofs.Tales.{Said, Seen-as, Tale, begun, woken, acted, judged}
 use Rattle.safety.proofs.Sizes.{Whole}
 use Rattle.safety.proofs.Vows.{vowed}
 use Rattle.safety.proofs.SeenInitialise.{seen-initialise}

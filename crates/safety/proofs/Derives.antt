@@ -12,15 +12,15 @@ use Rattle.octets.specs.Strings.{same}
 use Rattle.octets.proofs.RoundTrips.{and-left, and-right, same-is}
 use Rattle.rows.specs.declared.Found.{Found}
 use Rattle.rows.specs.declared.Found.the-variants.{At, Absent}
-use Rattle.rows.specs.Row.{label-of, tail-of, height-of}
+use Rattle.rows.specs.Row.{tail-of, height-of}
 use Rattle.rows.specs.Table.{each, rows-fit}
 use Rattle.rows.specs.Search.{find}
 use Rattle.rows.proofs.Searches.{found-is}
 use Rattle.roll.specs.Roll.{Roll}
 use Rattle.rules.specs.Rows.{is-absent, row-number}
 use Rattle.rules.specs.Derivation.{row-in, no-more, grown, row-derived}
-use Rattle.safety.proofs.Views.{standing, Reaches, Grows, look}
-use Rattle.safety.proofs.Looks.{look-at, Shown-at, shown-at}
+use Rattle.safety.proofs.Views.{Reaches, Grows}
+use Rattle.safety.proofs.Looks.{look-at, shown-at}
 
 -- a test that holds of each number holds of one
 pub each-at : (test : ℕ → Bool) (n i : ℕ) → i < n → each test n ≡ true → test i ≡ true

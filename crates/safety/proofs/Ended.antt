@@ -1,7 +1,7 @@
 -- How a call ends: refused, with nothing changed and nothing said, or with its effect and the statements in its output area. Assumes nothing.
-use mathlib.Core.Path.{_≡_, refl, sym, ap, _∙_}
+use mathlib.Core.Path.{_≡_, refl, ap, _∙_}
 use mathlib.Core.Bool.{Bool, true, false, not, cond, _&&_}
-use mathlib.Core.List.{List, [], _∷_, _++_, map, append-assoc}
+use mathlib.Core.List.{List, _++_, append-assoc}
 use Prim.Native.Nat.{ℕ}
 use borrow.Author.Tests.{eqb-true, eqb-false, ne-eqb}
 use lib.ListN.{length, take, drop}
@@ -10,9 +10,7 @@ use lib.Dec.{eqb}
 use Rattle.refusals.specs.{accepted}
 use Rattle.octets.specs.Strings.{put}
 use Rattle.statement.specs.declared.Statement.{Statement}
-use Rattle.statement.specs.Cut.{cut-statement}
 use Rattle.rules.specs.declared.Head.{Head}
-use Rattle.rules.specs.declared.Answer.{Answer}
 use Rattle.rules.specs.Outcomes.{Lent, Outcome, refused, given, again, unless}
 use Rattle.safety.specs.Calls.{Keeper, Call, lent, outcome-of, left-by, accepts, statements-in, for-signing}
 use Rattle.safety.proofs.Views.{View, idles, Idle}

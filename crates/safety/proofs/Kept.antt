@@ -1,8 +1,8 @@
 -- A keeper's sizes along a lawful history: set by its Wake, and kept by every call. Assumes nothing.
 use mathlib.Core.Path.{_≡_, refl, sym, ap, subst, _∙_}
 use mathlib.Core.Bool.{Bool, true, false, not, cond, _||_}
-use mathlib.Core.List.{List, [], _∷_, _++_, map}
-use Prim.Native.Nat.{ℕ, _+_}
+use mathlib.Core.List.{List, [], _∷_, map}
+use Prim.Native.Nat.{ℕ}
 use native.Mathlib.Omega.{arith}
 use borrow.Author.Tests.{ne-eqb}
 use lib.ListN.{length, replicate}
@@ -10,26 +10,23 @@ use lib.Dec.{eqb}
 use Rattle.refusals.specs.{accepted}
 use Rattle.octets.specs.Strings.{same}
 use Rattle.octets.proofs.RoundTrips.{same-is}
-use Rattle.roll.specs.Roll.{Roll, roll-layout}
-use Rattle.octets.specs.Layouts.{Layout}
-use Rattle.statement.specs.declared.Statement.{Statement}
+use Rattle.roll.specs.Roll.{roll-layout}
 use Rattle.statement.specs.Kinds.{digest-bytes}
 use Rattle.statement.specs.Cut.{cut-statement}
 use Rattle.rules.specs.declared.Head.{Head}
-use Rattle.rules.specs.declared.Answer.{Answer}
-use Rattle.rules.specs.Record.{blank, finalised}
-use Rattle.rules.specs.Outcomes.{Lent, Outcome, refused, given, again, unless, lending}
+use Rattle.rules.specs.Record.{finalised}
+use Rattle.rules.specs.Outcomes.{Outcome, refused, given, again, unless}
 use Rattle.rules.specs.Wake.{woken, waking}
-use Rattle.rules.specs.Initialise.{absent, initialise-refusal, founded, preparing, entered, initialising}
+use Rattle.rules.specs.Initialise.{absent, founded, preparing, entered, initialising}
 use Rattle.rules.specs.New.{making}
 use Rattle.rules.specs.Append.{appending}
 use Rattle.rules.specs.Read.{reading, appending-and-reading}
-use Rattle.rules.specs.Finalise.{finalise-size, last-words, handed-over, finalise-refusal, leaving, finalising}
+use Rattle.rules.specs.Finalise.{last-words, handed-over, finalise-refusal, leaving, finalising}
 use Rattle.rules.specs.Activate.{activating}
 use Rattle.rules.specs.Check.{checking}
-use Rattle.safety.specs.Calls.{Keeper, Call, Wake, Initialise, New, Append, Read, Append-and-read, Finalise, Activate, Bytes-to-check, lent, outcome-of, left-by, accepts, statements-in, for-signing, is-wake, Sized, Taken}
+use Rattle.safety.specs.Calls.{Keeper, Call, Wake, Initialise, New, Append, Read, Append-and-read, Finalise, Activate, Bytes-to-check, lent, outcome-of, left-by, accepts, statements-in, is-wake, Sized, Taken}
 use Rattle.safety.specs.Histories.{Event, At, Judged, keeper-after, called}
-use Rattle.safety.specs.Chip.{Orderly, Marked, Lawful, at-first, and-then}
+use Rattle.safety.specs.Chip.{Orderly, Lawful, at-first, and-then}
 use Rattle.safety.proofs.Views.{Waking}
 use Rattle.safety.proofs.Tales.{says}
 use Rattle.safety.proofs.Ended.{Ends, stopped, went, ends, Gives, gives}

@@ -1,20 +1,18 @@
 -- Laws of what a roll shows of a label: where the labels of two tables agree, and where a row is first. Assumes nothing.
-use mathlib.Core.Path.{_≡_, refl, sym, ap, ap₂, subst, _∙_}
+use mathlib.Core.Path.{_≡_, refl, ap, ap₂, subst, _∙_}
 use mathlib.Core.Bool.{Bool, true, false, cond}
 use mathlib.Core.List.{List}
-use Prim.Native.Nat.{ℕ, zero, suc, _+_, _*_, _≤_, _<_}
-use native.Mathlib.Nat.{not-suc-le-zero}
+use Prim.Native.Nat.{ℕ, zero, suc, _<_}
 use native.Mathlib.Omega.{arith}
-use lib.ListN.{length}
 use Rattle.octets.specs.Strings.{same}
 use Rattle.octets.proofs.RoundTrips.{same-is, same-refl}
 use Rattle.rows.specs.declared.Found.{Found}
 use Rattle.rows.specs.declared.Found.the-variants.{At, Absent}
 use Rattle.rows.specs.Row.{label-of, tail-of, height-of}
-use Rattle.rows.specs.Search.{held, or-else, first-of, find}
-use Rattle.rows.proofs.Searches.{first-found, none-is}
+use Rattle.rows.specs.Search.{or-else, first-of, find}
+use Rattle.rows.proofs.Searches.{first-found}
 use Rattle.roll.specs.Roll.{Roll}
-use Rattle.safety.proofs.Views.{Seen, nothing, standing, seen-at, look, Reaches, Grows}
+use Rattle.safety.proofs.Views.{standing, seen-at, look, Reaches, Grows}
 
 -- the search goes by the labels alone
 pub first-same : (a b label : List ℕ) (n : ℕ) → ((j : ℕ) → j < n → label-of a j ≡ label-of b j) → first-of n a label ≡ first-of n b label

@@ -1,18 +1,17 @@
 -- What a roll shows after a row is moved on or added: that row as it now stands, and the others as they stood. Assumes nothing.
-use mathlib.Core.Path.{_≡_, refl, sym, ap, ap₂, subst, _∙_}
+use mathlib.Core.Path.{_≡_, sym, ap, ap₂, _∙_}
 use mathlib.Core.Bool.{true}
 use mathlib.Core.List.{List}
 use Prim.Native.Nat.{ℕ, zero, suc, min, _+_, _*_, _/_, _^_, _≤_, _<_}
 use native.Mathlib.Decide.{decLt}
 use native.Mathlib.Omega.{arith}
 use lib.ListN.{length}
-use Rattle.rows.specs.declared.Found.{Found}
 use Rattle.rows.specs.declared.Found.the-variants.{At, Absent}
 use Rattle.rows.specs.Sizes.{label-bytes, tail-bytes, height-bytes, row-bytes, most-rows}
 use Rattle.rows.specs.Row.{label-of, tail-of, height-of}
 use Rattle.rows.specs.Table.{rows-fit}
 use Rattle.rows.specs.Search.{held, first-of, find}
-use Rattle.rows.proofs.Tables.{fit-length, fit-count}
+use Rattle.rows.proofs.Tables.{fit-length}
 use Rattle.rows.proofs.Searches.{held-all, none-is, found-is, absent-is}
 use Rattle.roll.specs.Roll.{Roll}
 use Rattle.statement.specs.Cut.{no-digest}

@@ -1,12 +1,12 @@
 -- The receipts that New, Append and Read sign: how long they are, and that cut back they show the row. Assumes nothing.
 use mathlib.Core.Path.{_≡_, refl, sym, ap, ap₂, subst, _∙_}
-use mathlib.Core.Bool.{Bool, true, false, not, cond, _&&_}
+use mathlib.Core.Bool.{true, false, not}
 use mathlib.Core.List.{List, [], _∷_, _++_}
 use Prim.Native.Nat.{ℕ, _+_, _*_, _/_, _%_, _^_, _≤_, _<_}
 use native.Mathlib.Omega.{arith}
-use borrow.Author.Tests.{le-leb, ne-eqb, not-true}
+use borrow.Author.Tests.{le-leb, ne-eqb}
 use lib.ListN.{length}
-use lib.Dec.{leb, eqb}
+use lib.Dec.{eqb}
 use Rattle.octets.specs.Numbers.{bytes-of}
 use Rattle.octets.specs.Strings.{all-zero}
 use Rattle.octets.proofs.Exact.{bytes-above}
@@ -18,10 +18,9 @@ use Rattle.statement.specs.declared.Statement.{Statement}
 use Rattle.statement.specs.Kinds.{digest-bytes, label-bytes, number-bytes, receipt-size, reading-size}
 use Rattle.statement.specs.Contents.{receipt, body, statement-written, receipt-fits, fits-as, statement-fits}
 use Rattle.statement.specs.Cut.{cut-statement, no-digest}
-use Rattle.statement.specs.Shape.{Arrays, Shaped}
+use Rattle.statement.specs.Shape.{Arrays}
 use Rattle.rules.specs.declared.Head.{Head}
 use Rattle.rules.specs.Rows.{receipt-of}
-use Rattle.desk.specs.Verdict.{height-in}
 use Rattle.safety.specs.Calls.{Keeper}
 use Rattle.safety.specs.Histories.{_∈_, at-front, behind}
 use Rattle.safety.specs.Hashed.{roll-in}

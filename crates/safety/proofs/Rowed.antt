@@ -1,8 +1,8 @@
 -- A keeper in office and the row that a label names in its table: what Append and Read may count on. Assumes nothing.
 use mathlib.Core.Path.{_≡_, refl, sym, ap, subst, _∙_}
 use mathlib.Core.Bool.{Bool, true, false, not, cond, _&&_}
-use mathlib.Core.List.{List, [], _∷_}
-use Prim.Native.Nat.{ℕ, _+_, _*_, _≤_, _<_}
+use mathlib.Core.List.{List}
+use Prim.Native.Nat.{ℕ, _+_, _*_, _≤_}
 use native.Mathlib.Omega.{arith}
 use borrow.Author.Tests.{leb-true}
 use lib.ListN.{length}
@@ -13,12 +13,10 @@ use Rattle.rows.specs.declared.Found.{Found}
 use Rattle.rows.specs.declared.Found.the-variants.{At, Absent}
 use Rattle.rows.specs.Sizes.{top-height, row-bytes, label-bytes}
 use Rattle.rows.specs.Row.{label-of, tail-of, height-of, row-holds, row-fits}
-use Rattle.rows.specs.Table.{stands, rises, rows-fit}
-use Rattle.rows.specs.Search.{find}
+use Rattle.rows.specs.Table.{stands, rises}
 use Rattle.rows.proofs.Tables.{fit-length, fit-count, fit-stands}
 use Rattle.rows.proofs.Searches.{found-is}
 use Rattle.statement.specs.Kinds.{digest-bytes}
-use Rattle.rules.specs.declared.Head.{Head}
 use Rattle.rules.specs.Record.{active}
 use Rattle.rules.specs.Outcomes.{Lent}
 use Rattle.rules.specs.Rows.{is-absent, row-number, sought, present-tail, present-height}

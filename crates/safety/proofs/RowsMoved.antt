@@ -1,13 +1,12 @@
 -- Laws of a table with one row moved on: that row, and the others. Assumes nothing.
-use mathlib.Core.Path.{_≡_, refl, sym, ap, _∙_}
+use mathlib.Core.Path.{_≡_, ap, _∙_}
 use mathlib.Core.List.{List, _++_}
 use Prim.Native.Nat.{ℕ, _+_, _*_, _≤_, _<_, _^_}
 use native.Mathlib.Decide.{decLt}
 use native.Mathlib.Omega.{arith}
-use lib.ListN.{length, take, drop, length-append}
+use lib.ListN.{length, take, length-append}
 use lib.Seq.{take-at, drop-at, take-all}
 use Rattle.octets.specs.Numbers.{number-of, bytes-of}
-use Rattle.octets.specs.Strings.{put}
 use Rattle.octets.proofs.Numbers.{bytes-length}
 use Rattle.octets.proofs.Exact.{number-bytes}
 use Rattle.octets.proofs.Puts.{put-length}

@@ -1,9 +1,9 @@
 -- Laws of a row as a part of its table, and of the parts of strings that are joined, cut or put into others. Assumes nothing.
-use mathlib.Core.Path.{_≡_, refl, sym, ap, _∙_}
+use mathlib.Core.Path.{_≡_, sym, ap, _∙_}
 use mathlib.Core.List.{List, _++_}
 use Prim.Native.Nat.{ℕ, _+_, _-_, _*_, _≤_}
 use native.Mathlib.Omega.{arith}
-use lib.ListN.{length, take, drop, length-append, length-drop, length-take}
+use lib.ListN.{length, take, drop, length-append, length-drop}
 use lib.Seq.{take-take, drop-drop, take-append-le, drop-append-le, drop-append-add, length-take-le}
 use Rattle.octets.specs.Numbers.{number-of}
 use Rattle.octets.specs.Strings.{put}

@@ -2,7 +2,7 @@
 use mathlib.Core.Path.{_≡_, refl, sym, ap, subst, _∙_}
 use mathlib.Core.Bool.{Bool, true, false, not, _&&_, _||_}
 use mathlib.Core.List.{List, [], _∷_, _++_, map, append-assoc}
-use Prim.Native.Nat.{ℕ, zero, suc, _+_, _*_, _≤_, _<_}
+use Prim.Native.Nat.{ℕ, zero, suc, _*_, _≤_, _<_}
 use native.Mathlib.Decide.{decLt}
 use native.Mathlib.Nat.{not-suc-le-zero}
 use native.Mathlib.Omega.{arith}
@@ -10,40 +10,38 @@ use borrow.Author.Tests.{eqb-false, ltb-false, not-false}
 use lib.ListN.{length}
 use lib.Dec.{eqb, leb, ltb}
 use Rattle.refusals.specs.{accepted, not-prepared, rack-broken, digest-differs, list-broken, roll-broken, too-few, signature-not-valid, initialise-not-valid, not-derived}
-use Rattle.refusals.specs.Order.{Test, _⇒_, first}
+use Rattle.refusals.specs.Order.{_⇒_, first}
 use Rattle.refusals.proofs.Orders.{numbered, passes, none-refuses}
 use Rattle.octets.specs.Strings.{same}
-use Rattle.octets.specs.Layouts.{Layout, holds}
+use Rattle.octets.specs.Layouts.{holds}
 use Rattle.octets.proofs.RoundTrips.{and-left, and-right, same-is, holds-fits}
 use Rattle.marks.specs.{attested, valid}
 use Rattle.marks.specs.Entries.{entries-fit, marks-tests, pair-position, pair-marks}
 use Rattle.marks.proofs.Listed.{in-rack, next-higher}
 use Rattle.marks.proofs.Refused.{marks-numbered, none-refused, unrefused}
-use Rattle.rack.specs.Racks.{Rack, rack-layout, rack-cut, rack-digest, majority}
+use Rattle.rack.specs.Racks.{rack-layout, rack-digest, majority}
 use Rattle.rows.specs.Table.{each, rows-fit}
-use Rattle.rows.specs.Digests.{roll-digest}
-use Rattle.roll.specs.Roll.{Roll, roll-layout}
+use Rattle.roll.specs.Roll.{roll-layout}
 use Rattle.statement.specs.declared.Statement.{Statement}
-use Rattle.statement.specs.Contents.{statement-written}
 use Rattle.statement.specs.Cut.{cut-statement}
 use Rattle.rules.specs.declared.Head.{Head}
-use Rattle.rules.specs.Record.{prepared, active}
-use Rattle.rules.specs.Outcomes.{Lent, Outcome, given, unless, lending, readiness}
+use Rattle.rules.specs.Record.{prepared}
+use Rattle.rules.specs.Outcomes.{Lent, given, lending, readiness}
 use Rattle.rules.specs.Bundle.{longest-bundle, old-count, old-position, old-marks, old-roll, new-count, new-entries, list-at, added, digests, list-of, blocks-fit, added-fits, bundle-fits}
 use Rattle.rules.specs.Initialise.{initialise-statement}
 use Rattle.rules.specs.Finalise.{finalise-statement}
 use Rattle.rules.specs.Derivation.{roll-of, no-more, row-derived, roll-derived, kept-by-some, derived}
 use Rattle.rules.specs.Activate.{rack-size, own-roll, racks-differ, bundle-tests, handover-tests, acting, activating}
 use Rattle.rules.specs.Check.{old-statement}
-use Rattle.record.proofs.Firsts.{Ready, ready, sound-rows}
+use Rattle.record.proofs.Firsts.{ready, sound-rows}
 use Rattle.safety.specs.Calls.{Keeper, Call, Activate, lent, outcome-of, left-by, accepts, statements-in}
 use Rattle.safety.specs.Histories.{_∈_, at-front, behind}
 use Rattle.safety.specs.Chip.{key-at}
 use Rattle.safety.specs.Hashed.{rack-string, roll-string, roll-in, old-rolls, hashed-by}
-use Rattle.safety.proofs.Views.{View, activates, Grows, Most, Handed, enter-of, leave-of, roll-name}
+use Rattle.safety.proofs.Views.{View, activates, Grows, Handed, enter-of, leave-of, roll-name}
 use Rattle.safety.proofs.Tales.{says}
 use Rattle.safety.proofs.Ended.{unless-refused, Gives, gives, seen-by}
-use Rattle.safety.proofs.Sizes.{Whole, roll-digest-long, Back, enter-back, leave-back}
+use Rattle.safety.proofs.Sizes.{Whole, roll-digest-long, enter-back, leave-back}
 use Rattle.safety.proofs.Derives.{each-at, derived-grows}
 
 neither : (p q : Bool) → (p || q) ≡ false → (p ≡ false) × (q ≡ false)

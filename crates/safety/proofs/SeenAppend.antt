@@ -1,28 +1,23 @@
 -- Append notes a row that is moved on. Assumes nothing.
-use mathlib.Core.Path.{_≡_, refl, sym, ap, _∙_}
-use mathlib.Core.Bool.{Bool, true, false, not}
-use mathlib.Core.List.{List, [], _∷_, _++_, map}
+use mathlib.Core.Path.{_≡_, refl, ap, _∙_}
+use mathlib.Core.Bool.{not}
+use mathlib.Core.List.{List, [], _∷_, map}
 use Prim.Native.Nat.{ℕ, _+_, _<_}
 use native.Mathlib.Omega.{arith}
 use borrow.Author.Tests.{eqb-false}
-use lib.ListN.{length}
 use lib.Dec.{eqb}
 use Rattle.refusals.specs.{accepted, no-such-ledger, out-of-order, height-at-top, not-active}
-use Rattle.refusals.specs.Order.{_⇒_, first}
 use Rattle.refusals.proofs.Orders.{passes}
 use Rattle.rows.specs.Sizes.{top-height}
 use Rattle.statement.specs.declared.Kind.the-variants.{Append}
 use Rattle.statement.specs.declared.Statement.{Statement}
 use Rattle.statement.specs.Kinds.{label-bytes, receipt-size}
-use Rattle.statement.specs.Contents.{statement-written}
 use Rattle.statement.specs.Cut.{cut-statement}
-use Rattle.rules.specs.declared.Head.{Head}
 use Rattle.rules.specs.Record.{active}
-use Rattle.rules.specs.Outcomes.{Lent, Outcome, given, unless}
-use Rattle.rules.specs.Table.{moved}
-use Rattle.rules.specs.Rows.{is-absent, sought, present-tail, present-height, receipt-of}
+use Rattle.rules.specs.Outcomes.{Lent, given}
+use Rattle.rules.specs.Rows.{is-absent, sought, present-tail, present-height}
 use Rattle.rules.specs.Append.{append-refusal, next-tail, next-height, moved-on, append-statement, appending}
-use Rattle.record.proofs.Firsts.{Ready, ready}
+use Rattle.record.proofs.Firsts.{ready}
 use Rattle.safety.specs.Calls.{Keeper, Call, lent, outcome-of, left-by, statements-in, Sized}
 use Rattle.safety.specs.Calls as calls
 use Rattle.safety.specs.Hashed.{roll-in}

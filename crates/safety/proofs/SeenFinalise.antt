@@ -1,25 +1,22 @@
 -- Finalise is a closing, or a repeat that says nothing. Assumes nothing.
 use mathlib.Core.Path.{_≡_, refl, sym, ap, subst, _∙_}
 use mathlib.Core.Bool.{Bool, true, false, not, cond}
-use mathlib.Core.List.{List, [], _∷_, _++_, map}
+use mathlib.Core.List.{List, [], _∷_, map}
 use Prim.Native.Nat.{ℕ}
 use borrow.Author.Tests.{eqb-true, eqb-false, not-false}
-use lib.ListN.{length}
 use lib.Dec.{eqb}
-use Rattle.refusals.specs.{accepted, not-active, rack-broken}
-use Rattle.refusals.specs.Order.{_⇒_, first}
+use Rattle.refusals.specs.{accepted, not-active}
+use Rattle.refusals.specs.Order.{first}
 use Rattle.refusals.proofs.Orders.{passes}
-use Rattle.octets.specs.Layouts.{Layout, holds}
-use Rattle.rack.specs.Racks.{rack-layout, rack-digest}
+use Rattle.rack.specs.Racks.{rack-digest}
 use Rattle.rows.specs.Digests.{roll-digest}
-use Rattle.roll.specs.Roll.{Roll, roll-layout}
 use Rattle.statement.specs.declared.Statement.{Statement}
 use Rattle.statement.specs.Kinds.{handover-size}
 use Rattle.statement.specs.Contents.{statement-written}
 use Rattle.statement.specs.Cut.{cut-statement}
 use Rattle.rules.specs.declared.Head.{Head}
 use Rattle.rules.specs.Record.{active, finalised}
-use Rattle.rules.specs.Outcomes.{Outcome, given, again, unless, lending}
+use Rattle.rules.specs.Outcomes.{given, again, lending}
 use Rattle.rules.specs.Finalise.{finalise-size, finalise-statement, last-words, handed-over, finalise-refusal, leaving, finalising}
 use Rattle.safety.specs.Calls.{Keeper, Call, Finalise, lent, outcome-of, left-by, accepts, statements-in}
 use Rattle.safety.specs.Histories.{_∈_, at-front}

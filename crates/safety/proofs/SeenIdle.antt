@@ -1,16 +1,15 @@
 -- Bytes to check: head and table stay, and nothing is for signing. Assumes nothing.
-use mathlib.Core.Path.{_≡_, refl, ap}
-use mathlib.Core.List.{List, [], _∷_, _++_, map}
+use mathlib.Core.Path.{refl, ap}
+use mathlib.Core.List.{List, map}
 use Prim.Native.Nat.{ℕ}
-use Rattle.refusals.specs.{accepted}
 use Rattle.statement.specs.declared.Statement.{Statement}
 use Rattle.statement.specs.Cut.{cut-statement}
-use Rattle.rules.specs.Outcomes.{Outcome, given, unless}
+use Rattle.rules.specs.Outcomes.{given}
 use Rattle.rules.specs.Check.{spoken-of, checking}
 use Rattle.safety.specs.Calls.{Keeper, Call, Bytes-to-check, lent, outcome-of, left-by, statements-in}
 use Rattle.safety.proofs.Views.{View, idles}
 use Rattle.safety.proofs.Tales.{says}
-use Rattle.safety.proofs.Ended.{unless-refused, Gives, gives}
+use Rattle.safety.proofs.Ended.{unless-refused, gives}
 
 module _ (Hashes : List ℕ → Type 0) (Said : List ℕ → Statement → Type 0) (key : List ℕ) (k : Keeper) where
   pub seen-check :

@@ -1,30 +1,27 @@
 -- Initialise founds a rack or prepares a keeper. Assumes nothing.
 use mathlib.Core.Path.{_≡_, refl, sym, ap, subst, _∙_}
-use mathlib.Core.Bool.{Bool, true, false, not, cond, _&&_}
-use mathlib.Core.List.{List, [], _∷_, _++_, map}
+use mathlib.Core.Bool.{Bool, true, false, not, cond}
+use mathlib.Core.List.{List, [], _∷_, map}
 use Prim.Native.Nat.{ℕ}
 use borrow.Author.Tests.{eqb-false}
-use lib.ListN.{length}
-use lib.Dec.{eqb}
 use Rattle.refusals.specs.{accepted, not-blank, rack-broken, key-not-in-rack, roll-or-rack-alone}
-use Rattle.refusals.specs.Order.{_⇒_, first}
+use Rattle.refusals.specs.Order.{first}
 use Rattle.refusals.proofs.Orders.{passes}
-use Rattle.octets.specs.Layouts.{Layout, holds}
-use Rattle.rack.specs.Racks.{rack-layout, rack-digest}
+use Rattle.octets.specs.Layouts.{holds}
+use Rattle.rack.specs.Racks.{rack-layout}
 use Rattle.rows.specs.Digests.{roll-digest}
-use Rattle.roll.specs.Roll.{Roll, roll-layout}
+use Rattle.roll.specs.Roll.{roll-layout}
 use Rattle.statement.specs.declared.Statement.{Statement}
 use Rattle.statement.specs.Kinds.{digest-bytes, handover-size}
-use Rattle.statement.specs.Contents.{statement-written}
 use Rattle.statement.specs.Cut.{cut-statement}
 use Rattle.rules.specs.declared.Head.{Head}
 use Rattle.rules.specs.Record.{blank}
-use Rattle.rules.specs.Outcomes.{Lent, Outcome, given, unless}
+use Rattle.rules.specs.Outcomes.{Lent}
 use Rattle.rules.specs.Initialise.{absent, is-in-rack, initialise-refusal, initialise-statement, founded, preparing, entered, initialising}
-use Rattle.record.proofs.Firsts.{Ready, ready}
+use Rattle.record.proofs.Firsts.{ready}
 use Rattle.safety.specs.Calls.{Keeper, Call, Initialise, lent, outcome-of, left-by, accepts, statements-in, Sized}
 use Rattle.safety.specs.Histories.{_∈_, at-front, behind}
-use Rattle.safety.specs.Hashed.{rack-string, roll-string, roll-in, hashed-by}
+use Rattle.safety.specs.Hashed.{rack-string, hashed-by}
 use Rattle.safety.proofs.Views.{View, founds, prepares, enter-of}
 use Rattle.safety.proofs.Tales.{says}
 use Rattle.safety.proofs.Ended.{unless-refused, Gives, gives, seen-by, alone-in}

@@ -1,14 +1,12 @@
 -- New notes a row that was not there. Assumes nothing.
-use mathlib.Core.Path.{_≡_, refl, sym, ap, _∙_}
+use mathlib.Core.Path.{_≡_, refl, ap, _∙_}
 use mathlib.Core.Bool.{Bool, true, false, not}
-use mathlib.Core.List.{List, [], _∷_, _++_, map}
-use Prim.Native.Nat.{ℕ, _+_, _<_}
+use mathlib.Core.List.{List, [], _∷_, map}
+use Prim.Native.Nat.{ℕ, _<_}
 use native.Mathlib.Omega.{arith}
 use borrow.Author.Tests.{eqb-false}
-use lib.ListN.{length}
 use lib.Dec.{eqb}
 use Rattle.refusals.specs.{accepted, label-zero, ledger-exists, table-full, not-active}
-use Rattle.refusals.specs.Order.{_⇒_, first}
 use Rattle.refusals.proofs.Orders.{passes}
 use Rattle.octets.specs.Strings.{all-zero}
 use Rattle.rows.specs.declared.Found.{Found}
@@ -21,13 +19,12 @@ use Rattle.statement.specs.declared.Statement.{Statement}
 use Rattle.statement.specs.Kinds.{label-bytes, receipt-size}
 use Rattle.statement.specs.Contents.{statement-written}
 use Rattle.statement.specs.Cut.{cut-statement, no-digest}
-use Rattle.rules.specs.declared.Head.{Head}
 use Rattle.rules.specs.Record.{active}
-use Rattle.rules.specs.Outcomes.{Lent, Outcome, given, unless}
+use Rattle.rules.specs.Outcomes.{Lent, given}
 use Rattle.rules.specs.Table.{smaller, widened}
 use Rattle.rules.specs.Rows.{is-absent, sought, receipt-of}
 use Rattle.rules.specs.New.{one-more, new-refusal, making}
-use Rattle.record.proofs.Firsts.{Ready, ready, sound-rows}
+use Rattle.record.proofs.Firsts.{ready, sound-rows}
 use Rattle.safety.specs.Calls.{Keeper, Call, lent, outcome-of, left-by, statements-in, Sized}
 use Rattle.safety.specs.Calls as calls
 use Rattle.safety.proofs.Views.{View, notes}

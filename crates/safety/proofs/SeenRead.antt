@@ -1,12 +1,11 @@
 -- Read notes a row as it stands, Append and read one that is moved on, by two statements. Assumes nothing.
-use mathlib.Core.Path.{_≡_, refl, sym, ap, ap₂, _∙_}
-use mathlib.Core.Bool.{Bool, true, false, not, cond, _&&_}
+use mathlib.Core.Path.{_≡_, refl, ap, ap₂, _∙_}
+use mathlib.Core.Bool.{true, not}
 use mathlib.Core.List.{List, [], _∷_, _++_, map}
 use Prim.Native.Nat.{ℕ, _+_, _≤_}
 use native.Mathlib.Omega.{arith}
 use borrow.Author.Tests.{eqb-false, le-leb, ne-eqb}
-use lib.ListN.{length, take, drop}
-use lib.Dec.{leb, eqb}
+use lib.ListN.{take, drop}
 use Rattle.refusals.specs.{accepted, no-such-ledger, not-active}
 use Rattle.refusals.specs.Order.{_⇒_, first}
 use Rattle.refusals.proofs.Orders.{passes}
@@ -14,18 +13,16 @@ use Rattle.octets.specs.Numbers.{number-of}
 use Rattle.octets.specs.Strings.{all-zero}
 use Rattle.rows.specs.Sizes.{top-height}
 use Rattle.rows.specs.Row.{row-holds}
-use Rattle.statement.specs.declared.Kind.{Kind}
 use Rattle.statement.specs.declared.Statement.{Statement}
 use Rattle.statement.specs.Kinds.{label-bytes, number-bytes, receipt-size, reading-size}
 use Rattle.statement.specs.Contents.{statement-written}
 use Rattle.statement.specs.Cut.{cut-statement}
-use Rattle.rules.specs.declared.Head.{Head}
 use Rattle.rules.specs.Record.{active}
-use Rattle.rules.specs.Outcomes.{Lent, Outcome, given, unless, readiness}
+use Rattle.rules.specs.Outcomes.{Lent, given, readiness}
 use Rattle.rules.specs.Rows.{is-absent, sought, present-tail, present-height, receipt-of}
 use Rattle.rules.specs.Append.{append-refusal, next-tail, next-height, moved-on, append-statement}
 use Rattle.rules.specs.Read.{read-kind, reading, appending-and-reading}
-use Rattle.record.proofs.Firsts.{Ready, ready}
+use Rattle.record.proofs.Firsts.{ready}
 use Rattle.safety.specs.Calls.{Keeper, Call, lent, outcome-of, left-by, statements-in, Sized}
 use Rattle.safety.specs.Calls as calls
 use Rattle.safety.specs.Hashed.{roll-in}

@@ -1,23 +1,23 @@
 -- An accepted verdict is vouched for, and shows what its statement says. Assumes nothing.
 use mathlib.Core.Path.{_≡_, refl, sym, ap, _∙_}
 use mathlib.Core.Bool.{Bool, true, false, not, cond, _&&_}
-use mathlib.Core.List.{List, [], _∷_, _++_}
-use Prim.Native.Nat.{ℕ, suc, _*_, _≤_, _<_}
+use mathlib.Core.List.{List}
+use Prim.Native.Nat.{ℕ, _*_, _≤_, _<_}
 use native.Mathlib.Omega.{arith}
 use borrow.Author.Tests.{eqb-true, eqb-false, leb-true, ltb-false, not-false}
 use lib.ListN.{length}
 use lib.Dec.{eqb, leb, ltb}
 use Rattle.refusals.specs.{accepted, rack-broken, list-broken, statement-not-asked, nonce-differs, too-few, signature-not-valid}
-use Rattle.refusals.specs.Order.{_⇒_, first}
+use Rattle.refusals.specs.Order.{first}
 use Rattle.refusals.proofs.Orders.{passes}
 use Rattle.octets.specs.Strings.{same}
-use Rattle.octets.specs.Layouts.{Layout, holds}
+use Rattle.octets.specs.Layouts.{holds}
 use Rattle.octets.proofs.RoundTrips.{and-left, and-right, same-is}
 use Rattle.marks.specs.{attested, valid}
 use Rattle.marks.specs.Entries.{entries-fit, marks-tests, pair-position, pair-marks}
 use Rattle.marks.proofs.Listed.{in-rack, next-higher}
 use Rattle.marks.proofs.Refused.{none-refused, unrefused}
-use Rattle.rack.specs.Racks.{Rack, rack-layout, rack-cut, rack-digest, majority}
+use Rattle.rack.specs.Racks.{rack-layout, rack-cut, rack-digest, majority}
 use Rattle.statement.specs.declared.Kind.{Kind}
 use Rattle.statement.specs.declared.Kind.the-variants.{Blank, New, Append, Read, Finalise, Initialise}
 use Rattle.statement.specs.declared.Statement.{Statement}
@@ -26,12 +26,11 @@ use Rattle.statement.specs.Cut.{cut-statement}
 use Rattle.statement.specs.Layout.{statement-layout}
 use Rattle.desk.specs.declared.Finding.{Finding}
 use Rattle.desk.specs.Verdict.{Question, signer-count, signers-fit, is-asked-for, has-other-nonce, height-in, verdict-refusal, nothing-shown, shown, judging}
-use Rattle.safety.specs.Calls.{Keeper}
 use Rattle.safety.specs.Histories.{Event}
 use Rattle.safety.specs.Chip.{key-at}
 use Rattle.safety.specs.Hashed.{rack-string}
 use Rattle.safety.specs.Demand.{Accepted}
-use Rattle.safety.proofs.Views.{Receipt, of-new, of-append, of-read, Most, Vouched}
+use Rattle.safety.proofs.Views.{Receipt, of-new, of-append, of-read, Vouched}
 use Rattle.safety.proofs.Tales.{Verdict-on}
 
 module _ (q : Question) (s signers : List ℕ) where

@@ -1,19 +1,18 @@
 -- The sizes of what a woken keeper holds, and the statements that are written with it: how long they are, and that they are cut back. Assumes nothing.
-use mathlib.Core.Path.{_≡_, refl, sym, ap, _∙_}
-use mathlib.Core.Bool.{Bool, true, false, not, cond, _&&_}
-use mathlib.Core.List.{List, [], _∷_, _++_}
+use mathlib.Core.Path.{_≡_, refl}
+use mathlib.Core.Bool.{true}
+use mathlib.Core.List.{List}
 use Prim.Native.Nat.{ℕ}
 use lib.ListN.{length}
 use Rattle.octets.specs.Strings.{all-zero}
 use Rattle.hash.proofs.Promised.{sha256-length}
 use Rattle.rack.specs.Racks.{rack-digest}
 use Rattle.rows.specs.Digests.{digest-of-rows, roll-digest, appended}
-use Rattle.statement.specs.declared.Kind.the-variants.{Finalise, Initialise}
 use Rattle.statement.specs.declared.Statement.{Statement}
-use Rattle.statement.specs.Kinds.{digest-bytes, size, handover-size}
+use Rattle.statement.specs.Kinds.{digest-bytes, size}
 use Rattle.statement.specs.Contents.{statement-written, handover-fits, fits-as, statement-fits}
 use Rattle.statement.specs.Cut.{cut-statement}
-use Rattle.statement.specs.Shape.{Arrays, Shaped}
+use Rattle.statement.specs.Shape.{Shaped}
 use Rattle.statement.proofs.Cuts.{cut-written}
 use Rattle.statement.proofs.Records.{fits-kind, written-length}
 use Rattle.rules.specs.declared.Head.{Head}

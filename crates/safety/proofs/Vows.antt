@@ -1,10 +1,9 @@
 -- What marks that pass vouch for: the keeper had said the statement, taken apart. Assumes nothing.
 use mathlib.Core.Path.{_≡_}
 use mathlib.Core.Bool.{true}
-use mathlib.Core.List.{List, [], _∷_, map}
+use mathlib.Core.List.{List, map}
 use Prim.Native.Nat.{ℕ}
 use Rattle.marks.specs.{attested, valid}
-use Rattle.statement.specs.declared.Statement.{Statement}
 use Rattle.statement.specs.Cut.{cut-statement}
 use Rattle.safety.specs.Calls.{Keeper}
 use Rattle.safety.specs.Histories.{Event, _∈_, at-front, behind, Returned, now-returned, before-returned}
