@@ -1,0 +1,75 @@
+-- Laws of what a roll shows of a label: where the labels of two tables agree, and where a row is first. Assumes nothing.
+use mathlib.Core.Path.{_≡_, refl, ap, ap₂, subst, _∙_}
+use mathlib.Core.Bool.{Bool, true, false, cond}
+use mathlib.Core.List.{List}
+use Prim.Native.Nat.{ℕ, zero, suc, _<_}
+use native.Mathlib.Omega.{arith}
+use Rattle.octets.specs.Strings.{same}
+use Rattle.octets.proofs.RoundTrips.{same-is, same-refl}
+use Rattle.rows.specs.declared.Found.{Found}
+use Rattle.rows.specs.declared.Found.the-variants.{At, Absent}
+use Rattle.rows.specs.Row.{label-of, tail-of, height-of}
+use Rattle.rows.specs.Search.{or-else, first-of, find}
+use Rattle.rows.proofs.Searches.{first-found}
+use Rattle.roll.specs.Roll.{Roll}
+use Rattle.safety.proofs.Views.{standing, seen-at, look, Reaches, Grows}
+
+-- the search goes by the labels alone
+pub first-same : (a b label : List ℕ) (n : ℕ) → ((j : ℕ) → j < n → label-of a j ≡ label-of b j) → first-of n a label ≡ first-of n b label
+unfolding first-of
+first-same a b label zero e = refl
+first-same a b label (suc n) e =
+    ap₂ (λ (f : Found) (l : List ℕ). or-else f (cond (same l label) (At n) Absent)) (first-same a b label n (λ j h. e j (omega arith))) (e n (omega arith))
+
+module _ (rows label : List ℕ) where
+  -- the row that is found is the first
+  pub none-earlier : (n j : ℕ) → first-of n rows label ≡ At j → first-of j rows label ≡ Absent
+  unfolding first-of
+  none-earlier zero j e = let z : _≡_ {A = ℕ} 0 1 = cc in absurd (omega arith)
+  none-earlier (suc n) j e = go (first-of n rows label) refl (none-earlier n j) (same (label-of rows n) label) e
+    where
+      go : (f : Found) → first-of n rows label ≡ f → (first-of n rows label ≡ At j → first-of j rows label ≡ Absent)
+          → (t : Bool) → or-else f (cond t (At n) Absent) ≡ At j → first-of j rows label ≡ Absent
+      go (At i) p earlier t e = earlier (p ∙ e)
+      go Absent p earlier true e = let r : n ≡ j = cc in subst (λ (m : ℕ). first-of m rows label ≡ Absent) r p
+      go Absent p earlier false e = let z : _≡_ {A = ℕ} 0 1 = cc in absurd (omega arith)
+
+  -- where none has the label, none is found
+  pub none-found : (n : ℕ) → ((m : ℕ) → m < n → label-of rows m ≡ label → ⊥) → first-of n rows label ≡ Absent
+  unfolding first-of
+  none-found zero never = refl
+  none-found (suc n) never = go (same (label-of rows n) label) refl (none-found n (λ m h. never m (omega arith)))
+    where
+      go : (t : Bool) → same (label-of rows n) label ≡ t → first-of n rows label ≡ Absent → or-else (first-of n rows label) (cond t (At n) Absent) ≡ Absent
+      go true q e = absurd (never n (omega arith) (same-is (label-of rows n) label q))
+      go false q e = rw e
+
+  pub found-first : (n i : ℕ) → i < n → ((m : ℕ) → m < i → label-of rows m ≡ label → ⊥) → label-of rows i ≡ label → first-of n rows label ≡ At i
+  found-first n i h never e = first-found rows label n i h (none-found i never) (rw e (same-refl label))
+
+module _ (v : Roll) (label : List ℕ) where
+  -- a roll shows what it finds
+  pub look-at : (i : ℕ) → find (v .count) (v .rows) label ≡ At i → look v label ≡ standing (height-of (v .rows) i) (tail-of (v .rows) i)
+  unfolding seen-at look
+  look-at i e = ap (seen-at (v .rows)) e
+
+  pub record Shown-at (height : ℕ) (tail : List ℕ) : Type 0 where
+    pub row : ℕ
+    pub found : find (v .count) (v .rows) label ≡ At row
+    pub height-is : height-of (v .rows) row ≡ height
+    pub tail-is : tail-of (v .rows) row ≡ tail
+
+  pub shown-at : (height : ℕ) (tail : List ℕ) → look v label ≡ standing height tail → Shown-at height tail
+  unfolding seen-at look
+  shown-at height tail e = go (find (v .count) (v .rows) label) refl e
+    where
+      go : (f : Found) → find (v .count) (v .rows) label ≡ f → seen-at (v .rows) f ≡ standing height tail → Shown-at height tail
+      go (At i) p e = record { row = i; found = p; height-is = cc; tail-is = cc }
+      go Absent p e = let z : _≡_ {A = ℕ} 0 1 = cc in absurd (omega arith)
+
+  -- what stands as it stood is reached
+  pub stands-still : (height : ℕ) (tail : List ℕ) → look v label ≡ standing height tail → Reaches v label height tail
+  stands-still height tail e = record { top = height; last = tail; shows = e; up = omega arith; agrees = λ h. refl }
+
+pub grows-not : (v : Roll) → Grows v v
+grows-not v = record { reaches = stands-still v }

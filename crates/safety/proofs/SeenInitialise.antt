@@ -1,0 +1,107 @@
+-- Initialise founds a rack or prepares a keeper. Assumes nothing.
+use mathlib.Core.Path.{_≡_, refl, sym, ap, subst, _∙_}
+use mathlib.Core.Bool.{Bool, true, false, not, cond}
+use mathlib.Core.List.{List, [], _∷_, map}
+use Prim.Native.Nat.{ℕ}
+use borrow.Author.Tests.{eqb-false}
+use Rattle.refusals.specs.{accepted, not-blank, rack-broken, key-not-in-rack, roll-or-rack-alone}
+use Rattle.refusals.specs.Order.{first}
+use Rattle.refusals.proofs.Orders.{passes}
+use Rattle.octets.specs.Layouts.{holds}
+use Rattle.rack.specs.Racks.{rack-layout}
+use Rattle.rows.specs.Digests.{roll-digest}
+use Rattle.roll.specs.Roll.{roll-layout}
+use Rattle.statement.specs.declared.Statement.{Statement}
+use Rattle.statement.specs.Kinds.{digest-bytes, handover-size}
+use Rattle.statement.specs.Cut.{cut-statement}
+use Rattle.rules.specs.declared.Head.{Head}
+use Rattle.rules.specs.Record.{blank}
+use Rattle.rules.specs.Outcomes.{Lent}
+use Rattle.rules.specs.Initialise.{absent, is-in-rack, initialise-refusal, initialise-statement, founded, preparing, entered, initialising}
+use Rattle.record.proofs.Firsts.{ready}
+use Rattle.safety.specs.Calls.{Keeper, Call, Initialise, lent, outcome-of, left-by, accepts, statements-in, Sized}
+use Rattle.safety.specs.Histories.{_∈_, at-front, behind}
+use Rattle.safety.specs.Hashed.{rack-string, hashed-by}
+use Rattle.safety.proofs.Views.{View, founds, prepares, enter-of}
+use Rattle.safety.proofs.Tales.{says}
+use Rattle.safety.proofs.Ended.{unless-refused, Gives, gives, seen-by, alone-in}
+use Rattle.safety.proofs.Sizes.{Whole, rack-digest-long, roll-digest-long, Back, enter-back}
+
+-- what is known where nothing refuses: the keeper is blank, and there is a previous rack where there is a roll
+pub record Initialisable (k : Lent) (roll previous : List ℕ) : Type 0 where
+  pub was : k .head .status ≡ blank
+  pub paired : cond (absent roll) (not (absent previous)) (absent previous) ≡ false
+
+pub initialisable : (k : Lent) (roll previous own : List ℕ) → initialise-refusal k roll previous own ≡ accepted → Initialisable k roll previous
+unfolding initialise-refusal
+initialisable k roll previous own e =
+    let r = ready handover-size blank not-blank k _ (eqb-false 3 0 refl) e in
+    let a = passes (not (holds rack-layout own)) rack-broken _ (eqb-false 6 0 refl) (r .1) in
+    let b = passes (not (is-in-rack (k .head .key) own)) key-not-in-rack _ (eqb-false 7 0 refl) (a .1) in
+    let c = passes (cond (absent roll) (not (absent previous)) (absent previous)) roll-or-rack-alone _ (eqb-false 8 0 refl) (b .1) in
+    record { was = r .0 .acts; paired = c .0 }
+
+-- the heads that it makes
+module _ (h : Head) (own : List ℕ) where
+  pub founded-whole : Whole (founded h own)
+  founded-whole = record { identity = rack-digest-long own; own = rack-digest-long own; previous = refl }
+
+  pub preparing-whole : (identity : List ℕ) (count : ℕ) (previous : List ℕ) → Sized digest-bytes identity → Whole (preparing h identity count previous own)
+  preparing-whole identity count previous sized = record { identity = sized .long; own = rack-digest-long own; previous = rack-digest-long previous }
+
+module _ (Hashes : List ℕ → Type 0) (Said : List ℕ → Statement → Type 0) (key : List ℕ) (k : Keeper) (identity roll previous own area : List ℕ) where
+  abbrev this : Call
+  this = Initialise identity roll previous own area
+
+  abbrev Looks : Type 0
+  Looks = View Hashes Said k (left-by key k this) (says key k this)
+
+  entering : (h : Head) (table : List ℕ) → outcome-of key k this ≡ entered (lent k area) h table → Gives key k this (initialise-statement h table) h table area
+  unfolding entered
+  entering h table o = gives key k this (initialise-statement h table) h table area o
+
+  said-so : (h : Head) (table : List ℕ) → Whole h → Gives key k this (initialise-statement h table) h table area → says key k this ≡ enter-of (h .identity) (h .previous) (h .own) (roll-digest (h .count) table) ∷ []
+  unfolding statements-in initialise-statement
+  said-so h table whole g =
+      let b : Back (enter-of (h .identity) (h .previous) (h .own) (roll-digest (h .count) table)) =
+      enter-back (h .identity) (h .previous) (h .own) (roll-digest (h .count) table) (whole .identity) (whole .previous) (whole .own) (roll-digest-long (h .count) table) in
+      ap (map cut-statement) (g .signs)
+      ∙ ap (λ (s : List ℕ). cut-statement s ∷ []) (alone-in area (initialise-statement h table) handover-size (b .long))
+      ∙ ap (λ (v : Statement). v ∷ []) (b .cut)
+
+  founding : k .head .status ≡ blank → outcome-of key k this ≡ entered (lent k area) (founded (k .head) own) (k .table) → Looks
+  founding was o =
+      let g = entering (founded (k .head) own) (k .table) o in
+      seen-by (g .leaves) (said-so (founded (k .head) own) (k .table) (founded-whole (k .head) own) g)
+      (founds (record { was = was; is = refl; founds = refl; first = refl; says = refl }))
+
+  module _ (sized : Sized digest-bytes identity) (hashes : accepts key k this ≡ true → (s : List ℕ) → s ∈ hashed-by k (left-by key k this) this → Hashes s) where
+    abbrev new-head : Head
+    new-head = preparing (k .head) identity (roll-layout .cut roll .count) previous own
+
+    abbrev new-table : List ℕ
+    new-table = roll-layout .cut roll .rows
+
+    previous-hashed : absent previous ≡ false → Gives key k this (initialise-statement new-head new-table) new-head new-table area → Hashes (rack-string previous)
+    unfolding hashed-by
+    previous-hashed e g =
+        hashes (g .accepts-it) (rack-string previous)
+        (behind (behind (subst (λ (b : Bool). rack-string previous ∈ cond b [] (rack-string previous ∷ [])) (sym e) at-front)))
+
+    prepared-so : k .head .status ≡ blank → absent previous ≡ false → outcome-of key k this ≡ entered (lent k area) new-head new-table → Looks
+    prepared-so was e o =
+        let g = entering new-head new-table o in
+        seen-by (g .leaves) (said-so new-head new-table (preparing-whole (k .head) own identity (roll-layout .cut roll .count) previous sized) g)
+        (prepares (record { was = was; is = refl; old = previous; old-is = refl; old-hashed = previous-hashed e g; says = refl }))
+
+    pub seen-initialise : Looks
+    unfolding outcome-of initialising
+    seen-initialise =
+        unless-refused key k this Hashes Said (initialise-refusal (lent k area) roll previous own) 0 area _ refl
+        (λ e o. let i = initialisable (lent k area) roll previous own e in go (absent roll) (i .was) (i .paired) o)
+      where
+        go :
+            (b : Bool) → k .head .status ≡ blank → cond b (not (absent previous)) (absent previous) ≡ false
+            → outcome-of key k this ≡ cond b (entered (lent k area) (founded (k .head) own) (k .table)) (entered (lent k area) new-head new-table) → Looks
+        go true was paired o = founding was o
+        go false was paired o = prepared-so was paired o
