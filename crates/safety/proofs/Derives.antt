@@ -76,6 +76,8 @@ module _ (ours old : Roll) where
 
     pub derived-grows : Grows old ours
     derived-grows =
-        record { reaches = λ label height tail e.
-          let s = shown-at old label height tail e in
-          rw (s .height-is, s .tail-is) at (has label (s .row) (s .found)) }
+        record {
+          reaches = λ label height tail e.
+              let s = shown-at old label height tail e in
+              rw (s .height-is, s .tail-is) at (has label (s .row) (s .found));
+        }

@@ -79,7 +79,7 @@ module _ (key : List ℕ) (k : Keeper) (whole : Whole (k .head)) where
   entered-whole :
       (identity roll previous own area : List ℕ) (b : Bool) → Sized digest-bytes identity
       → Whole (cond b (entered (lent k area) (founded (k .head) own) (k .table))
-        (entered (lent k area) (preparing (k .head) identity (roll-layout .cut roll .count) previous own) (roll-layout .cut roll .rows)) .left .head)
+      (entered (lent k area) (preparing (k .head) identity (roll-layout .cut roll .count) previous own) (roll-layout .cut roll .rows)) .left .head)
   unfolding entered given
   entered-whole identity roll previous own area true sized = founded-whole (k .head) own
   entered-whole identity roll previous own area false sized = preparing-whole (k .head) own identity (roll-layout .cut roll .count) previous sized

@@ -128,8 +128,8 @@ module _ (q : Question) (s signers : List ℕ) where
             below = in-rack n (pair-position signers) (pair-marks signers) c (j .fits);
             rising = next-higher n (pair-position signers) (pair-marks signers) c (j .fits);
             each-one = λ i h.
-              let m = unrefused signature-not-valid (omega arith) (pair-marks signers i) (none-refused signature-not-valid (omega arith) (pair-marks signers) c i h (j .marked)) in
-              vows i h (m .0) (m .1);
+                let m = unrefused signature-not-valid (omega arith) (pair-marks signers i) (none-refused signature-not-valid (omega arith) (pair-marks signers) c i h (j .marked)) in
+                vows i h (m .0) (m .1);
           };
         }
 

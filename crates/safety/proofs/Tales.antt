@@ -31,11 +31,11 @@ Seen-as start h key call =
 pub data Tale (start : List ℕ → Keeper) : List Event → Type 0 where
   begun : Tale start []
   woken : {key : List ℕ} {call : Call} {h : List Event} → called key h ≡ false
-    → Waking (left-by key (keeper-after start h key) call) (says key (keeper-after start h key) call) → Tale start h → Tale start (At key call ∷ h)
+      → Waking (left-by key (keeper-after start h key) call) (says key (keeper-after start h key) call) → Tale start h → Tale start (At key call ∷ h)
   acted : {key : List ℕ} {call : Call} {h : List Event} → called key h ≡ true → Seen-as start h key call → Tale start h → Tale start (At key call ∷ h)
   judged : {q : Question} {s signers : List ℕ} {h : List Event}
-    → (judging q s signers .number ≡ accepted → Vouched (λ t. t ∈ hashed-at start h (Judged q s signers)) (λ key v. Said start key v h) (cut-statement s))
-    → Tale start h → Tale start (Judged q s signers ∷ h)
+      → (judging q s signers .number ≡ accepted → Vouched (λ t. t ∈ hashed-at start h (Judged q s signers)) (λ key v. Said start key v h) (cut-statement s))
+      → Tale start h → Tale start (Judged q s signers ∷ h)
 
 -- an accepted verdict on a statement in a history
 pub record Verdict-on (h : List Event) (v : Statement) : Type 0 where

@@ -11,5 +11,5 @@ demand-3 keepers start h lawful apart identity label height t u a b =
     let y = accepted-verdict h identity label height u b in
     sym (x .tail-is)
     ∙ tale-safe start h (lawful-tale keepers start h lawful) apart (x .word) (y .word) (x .verdict) (y .verdict)
-      (x .identity-is ∙ sym (y .identity-is)) (x .label-is ∙ sym (y .label-is)) (x .height-is ∙ sym (y .height-is))
+    (x .identity-is ∙ sym (y .identity-is)) (x .label-is ∙ sym (y .label-is)) (x .height-is ∙ sym (y .height-is))
     ∙ y .tail-is
