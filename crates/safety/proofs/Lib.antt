@@ -1,24 +1,28 @@
 -- The proof of demand 3.
+-- what the proof goes by
 pub mod Views
 pub mod Tales
+-- how calls end, what a keeper holds, and what its rolls show
 pub mod Ended
-pub mod SeenIdle
 pub mod Sizes
-pub mod SeenFinalise
 pub mod RowsParts
 pub mod RowsMoved
 pub mod RowsWidened
 pub mod Looks
-pub mod Derives
-pub mod SeenInitialise
-pub mod Vows
-pub mod SeenVerdict
-pub mod SeenActivate
-pub mod Rowed
 pub mod LooksChanged
+pub mod Derives
+pub mod Rowed
 pub mod Receipts
+pub mod Vows
+-- each call and the verdict as a view, from its rule
+pub mod SeenInitialise
 pub mod SeenNew
 pub mod SeenAppend
 pub mod SeenRead
+pub mod SeenFinalise
+pub mod SeenActivate
+pub mod SeenIdle
+pub mod SeenVerdict
+-- a lawful history
 pub mod Kept
 pub mod Bridge

@@ -53,7 +53,7 @@ rowed size k label r e = go (sought k label) refl e
           found = p ∙ ap At (sym n);
           within = omega (arith, w .0);
           holds = subst (λ (j : ℕ). row-holds label (tail-of (k .table) j) (height-of (k .table) j) ≡ true) (sym n)
-            (subst (λ (l : List ℕ). row-holds l (tail-of (k .table) i) (height-of (k .table) i) ≡ true) (w .1) s);
+              (subst (λ (l : List ℕ). row-holds l (tail-of (k .table) i) (height-of (k .table) i) ≡ true) (w .1) s);
         }
     go Absent p e = let z : _≡_ {A = Bool} true false = e in let y : _≡_ {A = ℕ} 0 1 = cc in absurd (omega arith)
 

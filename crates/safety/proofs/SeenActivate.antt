@@ -177,9 +177,9 @@ module _ (Hashes : List ℕ → Type 0) (Said : List ℕ → Statement → Type 
 
   module _ (whole : Whole (k .head)) (hashes : accepts key k this ≡ true → (t : List ℕ) → t ∈ hashed-by k (left-by key k this) this → Hashes t)
       (olds : accepts key k this ≡ true → (i : ℕ) → i < old-count s → attested (old-marks s i) ≡ true → valid (old-marks s i) ≡ true
-        → Said (key-at previous (old-position s i)) (cut-statement (old-statement (k .head) s i)))
+      → Said (key-at previous (old-position s i)) (cut-statement (old-statement (k .head) s i)))
       (news : accepts key k this ≡ true → (i : ℕ) → i < new-count s → attested (pair-marks (new-entries s) i) ≡ true → valid (pair-marks (new-entries s) i) ≡ true
-        → Said (key-at own (pair-position (new-entries s) i)) (cut-statement (initialise-statement (k .head) (k .table)))) where
+      → Said (key-at own (pair-position (new-entries s) i)) (cut-statement (initialise-statement (k .head) (k .table)))) where
     old-cut : (i : ℕ) → cut-statement (old-statement (k .head) s i) ≡ leave-of (k .head .identity) (k .head .previous) (k .head .own) (roll-name (roll-of s i))
     unfolding finalise-statement old-statement
     old-cut i =
@@ -257,5 +257,5 @@ module _ (Hashes : List ℕ → Type 0) (Said : List ℕ → Statement → Type 
     seen-activate =
         unless-refused key k this Hashes Said _ 0 [] (given [] (acting (k .head)) (k .table) []) refl
         (λ e o.
-          let t = both-tests (lent k []) previous own s e in
-          activating-so (gives key k this [] (acting (k .head)) (k .table) [] o) (t .0) (t .1))
+        let t = both-tests (lent k []) previous own s e in
+        activating-so (gives key k this [] (acting (k .head)) (k .table) [] o) (t .0) (t .1))

@@ -1,4 +1,4 @@
--- Bytes to check: head and table stay, and nothing is for signing. Assumes nothing.
+-- Bytes to check changes nothing: head and table stay, and nothing is for signing. Assumes nothing.
 use mathlib.Core.Path.{refl, ap}
 use mathlib.Core.List.{List, map}
 use Prim.Native.Nat.{ℕ}
@@ -21,5 +21,5 @@ module _ (Hashes : List ℕ → Type 0) (Said : List ℕ → Statement → Type 
       let words : List ℕ = spoken-of (lent k area) bundle list entry in
       unless-refused key k call Hashes Said _ 0 area (given words (k .head) (k .table) area) refl
       (λ accepts o.
-        let g = gives key k call words (k .head) (k .table) area o in
-        idles (record { same-head = ap (λ (x : Keeper). x .head) (g .leaves); same-table = ap (λ (x : Keeper). x .table) (g .leaves); says = ap (map cut-statement) (g .signs) }))
+      let g = gives key k call words (k .head) (k .table) area o in
+      idles (record { same-head = ap (λ (x : Keeper). x .head) (g .leaves); same-table = ap (λ (x : Keeper). x .table) (g .leaves); says = ap (map cut-statement) (g .signs) }))

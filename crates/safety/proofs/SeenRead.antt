@@ -124,5 +124,5 @@ module _ (Hashes : List ℕ → Type 0) (Said : List ℕ → Statement → Type 
         unless-refused key k both Hashes Said (append-refusal (receipt-size + reading-size) (lent k area) label expected) _ area
         (given (first-word ++ next-word) (k .head) (moved-on (lent k area) label entry) area) refl
         (λ e o.
-          noting-both (appendable (receipt-size + reading-size) (lent k area) label expected e)
-          (gives key k both (first-word ++ next-word) (k .head) (moved-on (lent k area) label entry) area o))
+        noting-both (appendable (receipt-size + reading-size) (lent k area) label expected e)
+        (gives key k both (first-word ++ next-word) (k .head) (moved-on (lent k area) label entry) area o))

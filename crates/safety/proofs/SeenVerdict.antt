@@ -110,7 +110,8 @@ module _ (q : Question) (s signers : List ℕ) where
 
   module _ (Hashes : List ℕ → Type 0) (Said : List ℕ → Statement → Type 0)
       (hashes : Hashes (rack-string (q .rack)))
-      (vows : (i : ℕ) → i < signer-count signers → attested (pair-marks signers i) ≡ true → valid (pair-marks signers i) ≡ true → Said (key-at (q .rack) (pair-position signers i)) (cut-statement s)) where
+      (vows : (i : ℕ) → i < signer-count signers → attested (pair-marks signers i) ≡ true → valid (pair-marks signers i) ≡ true
+      → Said (key-at (q .rack) (pair-position signers i)) (cut-statement s)) where
     pub seen-verdict : judging q s signers .number ≡ accepted → Vouched Hashes Said (cut-statement s)
     seen-verdict e =
         let j = judgeable (accepted-so e .0) in
@@ -128,8 +129,8 @@ module _ (q : Question) (s signers : List ℕ) where
             below = in-rack n (pair-position signers) (pair-marks signers) c (j .fits);
             rising = next-higher n (pair-position signers) (pair-marks signers) c (j .fits);
             each-one = λ i h.
-              let m = unrefused signature-not-valid (omega arith) (pair-marks signers i) (none-refused signature-not-valid (omega arith) (pair-marks signers) c i h (j .marked)) in
-              vows i h (m .0) (m .1);
+                let m = unrefused signature-not-valid (omega arith) (pair-marks signers i) (none-refused signature-not-valid (omega arith) (pair-marks signers) c i h (j .marked)) in
+                vows i h (m .0) (m .1);
           };
         }
 
