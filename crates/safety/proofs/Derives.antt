@@ -49,7 +49,9 @@ module _ (ours old : Roll) where
   module _ (fit : rows-fit (ours .count) (ours .rows) ≡ true) (old-fit : rows-fit (old .count) (old .rows) ≡ true)
       (lists : ℕ → List ℕ) (counts : ℕ → ℕ)
       (more : no-more ours old ≡ true) (rows : each (λ r. row-derived ours old r (lists r) (counts r)) (ours .count) ≡ true) where
-    reached : (label : List ℕ) (q r : ℕ) → find (old .count) (old .rows) label ≡ At q → find (ours .count) (ours .rows) label ≡ At r → Reaches ours label (height-of (old .rows) q) (tail-of (old .rows) q)
+    reached :
+        (label : List ℕ) (q r : ℕ) → find (old .count) (old .rows) label ≡ At q → find (ours .count) (ours .rows) label ≡ At r
+        → Reaches ours label (height-of (old .rows) q) (tail-of (old .rows) q)
     unfolding grown
     reached label q r old-has we-have =
         let w = found-is (ours .count) (ours .rows) label r fit we-have in

@@ -1,7 +1,8 @@
--- The proof of demand 3: the interface (views and tales), what the rules give of it call by call, what follows from a tale alone, and the theorem.
+-- The proof of demand 3.
+-- what the proof goes by
 pub mod Views
 pub mod Tales
--- from the rules to a tale
+-- how calls end, what a keeper holds, and what its rolls show
 pub mod Ended
 pub mod Sizes
 pub mod RowsParts
@@ -9,21 +10,23 @@ pub mod RowsMoved
 pub mod RowsWidened
 pub mod Looks
 pub mod LooksChanged
+pub mod Derives
 pub mod Rowed
 pub mod Receipts
-pub mod Derives
 pub mod Vows
-pub mod SeenIdle
+-- each call and the verdict as a view, from its rule
 pub mod SeenInitialise
 pub mod SeenNew
 pub mod SeenAppend
 pub mod SeenRead
 pub mod SeenFinalise
 pub mod SeenActivate
+pub mod SeenIdle
 pub mod SeenVerdict
+-- a lawful history is told by its views
 pub mod Kept
 pub mod Bridge
--- from a tale to safety
+-- what follows from a tale alone
 pub mod Quorums
 pub mod Sights
 pub mod Offices

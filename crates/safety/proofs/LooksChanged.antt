@@ -54,8 +54,10 @@ module _ (count : ℕ) (rows : List ℕ) (i : ℕ) (tail : List ℕ) (height : �
     moved-grows higher = record { reaches = λ label h t e. let s = shown-at before label h t e in go label h t s (decLt (s .row) i) (decLt i (s .row)) }
       where
         go : (label : List ℕ) (h : ℕ) (t : List ℕ) (s : Shown-at before label h t) → Dec (s .row < i) → Dec (i < s .row) → Reaches after label h t
-        go label h t s (yes l) d = as-before before after label h t (s .row) (s .row) (s .height-is) (s .tail-is) (finds label ∙ s .found) (moves.row-before rows i tail height within sized (s .row) l)
-        go label h t s (no l) (yes g) = as-before before after label h t (s .row) (s .row) (s .height-is) (s .tail-is) (finds label ∙ s .found) (moves.row-behind rows i tail height within sized (s .row) g)
+        go label h t s (yes l) d =
+            as-before before after label h t (s .row) (s .row) (s .height-is) (s .tail-is) (finds label ∙ s .found) (moves.row-before rows i tail height within sized (s .row) l)
+        go label h t s (no l) (yes g) =
+            as-before before after label h t (s .row) (s .row) (s .height-is) (s .tail-is) (finds label ∙ s .found) (moves.row-behind rows i tail height within sized (s .row) g)
         go label h t s (no l) (no g) =
             let e : s .row ≡ i = omega arith in
             let p : height-of rows i ≡ h = ap (height-of rows) (sym e) ∙ s .height-is in

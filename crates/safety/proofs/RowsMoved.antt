@@ -16,7 +16,10 @@ use Rattle.rules.specs.Table.{moved}
 use Rattle.safety.proofs.RowsParts.{put-before, put-inside, put-behind, row-at, same-label}
 
 module _ (rows : List ℕ) (i : ℕ) (tail : List ℕ) (height : ℕ) (within : row-bytes * i + row-bytes ≤ length rows) (sized : length tail ≡ tail-bytes) where
-  new-long : length (tail ++ bytes-of height-bytes height) ≡ tail-bytes + height-bytes
+  abbrev new-bytes : List ℕ
+  new-bytes = tail ++ bytes-of height-bytes height
+
+  new-long : length new-bytes ≡ tail-bytes + height-bytes
   new-long = length-append tail (bytes-of height-bytes height) ∙ omega (arith, bytes-length height-bytes height)
 
   at-most : row-bytes * i + label-bytes ≤ length rows
@@ -24,26 +27,19 @@ module _ (rows : List ℕ) (i : ℕ) (tail : List ℕ) (height : ℕ) (within : 
 
   pub moved-length : length (moved rows i tail height) ≡ length rows
   unfolding moved
-  moved-length = put-length rows (row-bytes * i + label-bytes) (tail ++ bytes-of height-bytes height) (omega (arith, new-long))
+  moved-length = put-length rows (row-bytes * i + label-bytes) new-bytes (omega (arith, new-long))
 
   pub row-before : (m : ℕ) → m < i → row-at (moved rows i tail height) m ≡ row-at rows m
   unfolding moved row-at
-  row-before m h = put-before rows (row-bytes * i + label-bytes) (tail ++ bytes-of height-bytes height) at-most (row-bytes * m) row-bytes (omega arith)
+  row-before m h = put-before rows (row-bytes * i + label-bytes) new-bytes at-most (row-bytes * m) row-bytes (omega arith)
 
   pub row-behind : (m : ℕ) → i < m → row-at (moved rows i tail height) m ≡ row-at rows m
   unfolding moved row-at
-  row-behind m h = put-behind rows (row-bytes * i + label-bytes) (tail ++ bytes-of height-bytes height) at-most (row-bytes * m) row-bytes (omega (arith, new-long))
-
-  pub row-other : (m : ℕ) → (m ≡ i → ⊥) → row-at (moved rows i tail height) m ≡ row-at rows m
-  row-other m n = go (decLt m i)
-    where
-      go : Dec (m < i) → row-at (moved rows i tail height) m ≡ row-at rows m
-      go (yes l) = row-before m l
-      go (no l) = row-behind m (omega arith)
+  row-behind m h = put-behind rows (row-bytes * i + label-bytes) new-bytes at-most (row-bytes * m) row-bytes (omega (arith, new-long))
 
   label-here : label-of (moved rows i tail height) i ≡ label-of rows i
   unfolding moved label-of
-  label-here = put-before rows (row-bytes * i + label-bytes) (tail ++ bytes-of height-bytes height) at-most (row-bytes * i) label-bytes (omega arith)
+  label-here = put-before rows (row-bytes * i + label-bytes) new-bytes at-most (row-bytes * i) label-bytes (omega arith)
 
   -- every label stays
   pub label-stays : (m : ℕ) → label-of (moved rows i tail height) m ≡ label-of rows m
@@ -57,14 +53,14 @@ module _ (rows : List ℕ) (i : ℕ) (tail : List ℕ) (height : ℕ) (within : 
   pub tail-moved : tail-of (moved rows i tail height) i ≡ tail
   unfolding moved tail-of
   tail-moved =
-      put-inside rows (row-bytes * i + label-bytes) (tail ++ bytes-of height-bytes height) at-most (row-bytes * i + label-bytes) 0 tail-bytes (omega arith) (omega (arith, new-long))
+      put-inside rows (row-bytes * i + label-bytes) new-bytes at-most (row-bytes * i + label-bytes) 0 tail-bytes (omega arith) (omega (arith, new-long))
       ∙ take-at tail (bytes-of height-bytes height) tail-bytes sized
 
   pub height-moved : height < 256 ^ height-bytes → height-of (moved rows i tail height) i ≡ height
   unfolding moved height-of
   height-moved h =
       ap number-of
-      (put-inside rows (row-bytes * i + label-bytes) (tail ++ bytes-of height-bytes height) at-most (row-bytes * i + label-bytes + tail-bytes) tail-bytes height-bytes (omega arith) (omega (arith, new-long))
+      (put-inside rows (row-bytes * i + label-bytes) new-bytes at-most (row-bytes * i + label-bytes + tail-bytes) tail-bytes height-bytes (omega arith) (omega (arith, new-long))
       ∙ ap (take height-bytes) (drop-at tail (bytes-of height-bytes height) tail-bytes sized)
       ∙ take-all height-bytes (bytes-of height-bytes height) (omega (arith, bytes-length height-bytes height)))
       ∙ number-bytes height-bytes height h

@@ -25,6 +25,9 @@ smaller-most zero rows label = omega arith
 smaller-most (suc n) rows label = omega (arith, smaller-most n rows label, at-most-one (before (label-of rows n) label))
 
 module _ (t label : List ℕ) (i : ℕ) (within : row-bytes * i + row-bytes ≤ length t) (sized : length label ≡ label-bytes) where
+  abbrev longer : List ℕ
+  longer = take (row-bytes * i) t ++ new-row label ++ drop (row-bytes * i) t
+
   row-long : length (new-row label) ≡ row-bytes
   row-long = simp (length-append, length-replicate) (omega arith)
 
@@ -37,13 +40,13 @@ module _ (t label : List ℕ) (i : ℕ) (within : row-bytes * i + row-bytes ≤ 
   pub widened-length : length (widened t i label) ≡ length t
   unfolding widened
   widened-length =
-      length-take-le (length t) (take (row-bytes * i) t ++ new-row label ++ drop (row-bytes * i) t)
+      length-take-le (length t) longer
       (omega (arith, both-long, length-append (take (row-bytes * i) t ++ new-row label) (drop (row-bytes * i) t), length-drop (row-bytes * i) t))
 
   pub row-before : (m : ℕ) → m < i → row-at (widened t i label) m ≡ row-at t m
   unfolding widened row-at
   row-before m h =
-      part-cut (take (row-bytes * i) t ++ new-row label ++ drop (row-bytes * i) t) (length t) (row-bytes * m) row-bytes (omega arith)
+      part-cut longer (length t) (row-bytes * m) row-bytes (omega arith)
       ∙ part-front (take (row-bytes * i) t ++ new-row label) (drop (row-bytes * i) t) (row-bytes * m) row-bytes (omega (arith, both-long))
       ∙ part-front (take (row-bytes * i) t) (new-row label) (row-bytes * m) row-bytes (omega (arith, front-long))
       ∙ part-cut t (row-bytes * i) (row-bytes * m) row-bytes (omega arith)
@@ -51,7 +54,7 @@ module _ (t label : List ℕ) (i : ℕ) (within : row-bytes * i + row-bytes ≤ 
   pub row-here : row-at (widened t i label) i ≡ new-row label
   unfolding widened row-at
   row-here =
-      part-cut (take (row-bytes * i) t ++ new-row label ++ drop (row-bytes * i) t) (length t) (row-bytes * i) row-bytes (omega arith)
+      part-cut longer (length t) (row-bytes * i) row-bytes (omega arith)
       ∙ part-front (take (row-bytes * i) t ++ new-row label) (drop (row-bytes * i) t) (row-bytes * i) row-bytes (omega (arith, both-long))
       ∙ part-back (take (row-bytes * i) t) (new-row label) 0 row-bytes (row-bytes * i) (omega (arith, front-long))
       ∙ take-all row-bytes (new-row label) (omega (arith, row-long))
@@ -60,7 +63,7 @@ module _ (t label : List ℕ) (i : ℕ) (within : row-bytes * i + row-bytes ≤ 
   unfolding widened row-at
   row-behind m h last =
       let e : row-bytes * i + (row-bytes * m - row-bytes * i) ≡ row-bytes * m = omega arith in
-      part-cut (take (row-bytes * i) t ++ new-row label ++ drop (row-bytes * i) t) (length t) (row-bytes * suc m) row-bytes last
+      part-cut longer (length t) (row-bytes * suc m) row-bytes last
       ∙ part-back (take (row-bytes * i) t ++ new-row label) (drop (row-bytes * i) t) (row-bytes * m - row-bytes * i) row-bytes (row-bytes * suc m) (omega (arith, both-long))
       ∙ part-part t (row-bytes * i) (row-bytes * m - row-bytes * i) row-bytes ∙ ap (λ (j : ℕ). take row-bytes (drop j t)) e
 

@@ -1,4 +1,4 @@
--- Bytes to check: head and table stay, and nothing is for signing. Assumes nothing.
+-- Bytes to check changes nothing: head and table stay, and nothing is for signing. Assumes nothing.
 use mathlib.Core.Path.{refl, ap}
 use mathlib.Core.List.{List, map}
 use Prim.Native.Nat.{ℕ}

@@ -60,7 +60,9 @@ module _ (Hashes : List ℕ → Type 0) (Said : List ℕ → Statement → Type 
   unfolding entered
   entering h table o = gives key k this (initialise-statement h table) h table area o
 
-  said-so : (h : Head) (table : List ℕ) → Whole h → Gives key k this (initialise-statement h table) h table area → says key k this ≡ enter-of (h .identity) (h .previous) (h .own) (roll-digest (h .count) table) ∷ []
+  said-so :
+      (h : Head) (table : List ℕ) → Whole h → Gives key k this (initialise-statement h table) h table area
+      → says key k this ≡ enter-of (h .identity) (h .previous) (h .own) (roll-digest (h .count) table) ∷ []
   unfolding statements-in initialise-statement
   said-so h table whole g =
       let b : Back (enter-of (h .identity) (h .previous) (h .own) (roll-digest (h .count) table)) =

@@ -110,7 +110,8 @@ module _ (q : Question) (s signers : List ℕ) where
 
   module _ (Hashes : List ℕ → Type 0) (Said : List ℕ → Statement → Type 0)
       (hashes : Hashes (rack-string (q .rack)))
-      (vows : (i : ℕ) → i < signer-count signers → attested (pair-marks signers i) ≡ true → valid (pair-marks signers i) ≡ true → Said (key-at (q .rack) (pair-position signers i)) (cut-statement s)) where
+      (vows : (i : ℕ) → i < signer-count signers → attested (pair-marks signers i) ≡ true → valid (pair-marks signers i) ≡ true
+      → Said (key-at (q .rack) (pair-position signers i)) (cut-statement s)) where
     pub seen-verdict : judging q s signers .number ≡ accepted → Vouched Hashes Said (cut-statement s)
     seen-verdict e =
         let j = judgeable (accepted-so e .0) in
