@@ -23,7 +23,7 @@ use Rattle.rules.specs.declared.Head.{Head}
 use Rattle.rules.specs.Record.{blank}
 use Rattle.rules.specs.Outcomes.{Lent, lending, readiness}
 use Rattle.rules.specs.Initialise.{absent, is-in-rack, initialise-refusal}
-use Rattle.record.proofs.Firsts.{ready, sound-rows}
+use Rattle.rules.proofs.Firsts.{ready, sound-rows}
 use Rattle.entering.specs.Parts.{own-tests, old-tests, spoken, Takeable}
 
 -- of a rack the whole is digested

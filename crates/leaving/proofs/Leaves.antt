@@ -15,7 +15,7 @@ use Rattle.rows.specs.Table.{rows-fit}
 use Rattle.rules.specs.Record.{active}
 use Rattle.rules.specs.Outcomes.{Lent, lending}
 use Rattle.rules.specs.Finalise.{finalise-size, finalise-refusal}
-use Rattle.record.proofs.Firsts.{lent, sound-rows}
+use Rattle.rules.proofs.Firsts.{lent, sound-rows}
 
 -- the rows and the room of a record that passes
 pub can-speak :

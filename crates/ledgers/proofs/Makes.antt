@@ -24,7 +24,7 @@ use Rattle.rules.specs.Outcomes.{Lent}
 use Rattle.rules.specs.Table.{smaller}
 use Rattle.rules.specs.Rows.{is-absent, sought, receipt-of}
 use Rattle.rules.specs.New.{new-refusal}
-use Rattle.record.proofs.Firsts.{ready, sound-rows}
+use Rattle.rules.proofs.Firsts.{ready, sound-rows}
 use Rattle.ledgers.proofs.Tables.{at-most-one}
 
 pub smaller-most : (n : ℕ) (rows label : List ℕ) → smaller n rows label ≤ n

@@ -17,7 +17,7 @@ use Rattle.rules.specs.Outcomes.{Lent, lending, readiness}
 use Rattle.rules.specs.Rows.{is-absent, sought, present-tail, present-height}
 use Rattle.rules.specs.Append.{append-refusal}
 use Rattle.rules.proofs.FoundRows.{row-found, row-labelled, row-below, row-next}
-use Rattle.record.proofs.Firsts.{ready, sound-rows}
+use Rattle.rules.proofs.Firsts.{ready, sound-rows}
 use Rattle.ledgers.specs.Known.{Findable, Appendable}
 use Rattle.ledgers.specs.Tests.{found, ordered}
 

@@ -36,7 +36,7 @@ use Rattle.rules.specs.Bundle.{old-count, old-marks, new-count, new-entries, ad
 use Rattle.rules.specs.Derivation.{row-in, no-more, row-derived, roll-of, roll-derived, derived}
 use Rattle.rules.specs.Activate.{rack-size, own-roll, bundle-tests, handover-tests, activating}
 use Rattle.rules.proofs.FoundRows.{row-found, row-labelled}
-use Rattle.record.proofs.Firsts.{sound-rows}
+use Rattle.rules.proofs.Firsts.{sound-rows}
 use Rattle.desk.proofs.NumbersToTry.{listed-twice, one-signer, two-signers}
 use Rattle.numbers.specs.Cases.{Ready, Stands, Offered, Numbers-to-try}
 use Rattle.numbers.proofs.Prepared.{lent-by, status-refuses, ready-by, comes-to, has-effect}

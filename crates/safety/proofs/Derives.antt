@@ -2,9 +2,7 @@
 use mathlib.Core.Path.{_≡_, refl, sym, ap, subst, _∙_}
 use mathlib.Core.Bool.{Bool, true, false, not, _&&_}
 use mathlib.Core.List.{List}
-use Prim.Native.Nat.{ℕ, zero, suc, _+_, _<_}
-use native.Mathlib.Decide.{decLt}
-use native.Mathlib.Nat.{not-suc-le-zero}
+use Prim.Native.Nat.{ℕ, _+_}
 use native.Mathlib.Omega.{arith}
 use borrow.Author.Tests.{eqb-true}
 use lib.Dec.{eqb}
@@ -15,22 +13,13 @@ use Rattle.rows.specs.declared.Found.the-variants.{At, Absent}
 use Rattle.rows.specs.Row.{tail-of, height-of}
 use Rattle.rows.specs.Table.{each, rows-fit}
 use Rattle.rows.specs.Search.{find}
+use Rattle.rows.proofs.Tables.{each-of}
 use Rattle.rows.proofs.Searches.{found-is}
 use Rattle.roll.specs.Roll.{Roll}
 use Rattle.rules.specs.Rows.{is-absent, row-number}
 use Rattle.rules.specs.Derivation.{row-in, no-more, grown, row-derived}
 use Rattle.safety.proofs.Views.{Reaches, Grows}
 use Rattle.safety.proofs.Looks.{look-at, shown-at}
-
--- a test that holds of each number holds of one
-pub each-at : (test : ℕ → Bool) (n i : ℕ) → i < n → each test n ≡ true → test i ≡ true
-unfolding each
-each-at test zero i h e = absurd (not-suc-le-zero h)
-each-at test (suc n) i h e = go (λ l. each-at test n i l (and-left (each test n) (test n) e)) (decLt i n)
-  where
-    go : (i < n → test i ≡ true) → Dec (i < n) → test i ≡ true
-    go earlier (yes l) = earlier l
-    go earlier (no l) = let q : n ≡ i = omega arith in rw q at (and-right (each test n) (test n) e)
 
 module _ (ours old : Roll) where
   -- what is asked of a row that the old roll has
@@ -56,7 +45,7 @@ module _ (ours old : Roll) where
     reached label q r old-has we-have =
         let w = found-is (ours .count) (ours .rows) label r fit we-have in
         let x : row-in old ours r ≡ At q = ap (find (old .count) (old .rows)) (w .1) ∙ old-has in
-        let p = row-parts r q (lists r) (counts r) x (each-at (λ r. row-derived ours old r (lists r) (counts r)) (ours .count) r (w .0) rows) in
+        let p = row-parts r q (lists r) (counts r) x (each-of (λ r. row-derived ours old r (lists r) (counts r)) (ours .count) r (w .0) rows) in
         record {
           top = height-of (ours .rows) r;
           last = tail-of (ours .rows) r;
@@ -69,7 +58,7 @@ module _ (ours old : Roll) where
     unfolding no-more
     has label q old-has =
         let w = found-is (old .count) (old .rows) label q old-fit old-has in
-        let m = each-at (λ q. not (is-absent (row-in ours old q))) (old .count) q (w .0) more in
+        let m = each-of (λ q. not (is-absent (row-in ours old q))) (old .count) q (w .0) more in
         go (find (ours .count) (ours .rows) label) refl (subst (λ (l : List ℕ). not (is-absent (find (ours .count) (ours .rows) l)) ≡ true) (w .1) m)
       where
         go : (f : Found) → find (ours .count) (ours .rows) label ≡ f → not (is-absent f) ≡ true → Reaches ours label (height-of (old .rows) q) (tail-of (old .rows) q)

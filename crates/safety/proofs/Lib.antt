@@ -11,7 +11,6 @@ pub mod RowsWidened
 pub mod Looks
 pub mod LooksChanged
 pub mod Derives
-pub mod Rowed
 pub mod Receipts
 pub mod Vows
 -- each call and the verdict as a view, from its rule

@@ -26,7 +26,7 @@ use Rattle.safety.specs.Histories.{_∈_, at-front, behind}
 use Rattle.safety.specs.Hashed.{roll-in}
 use Rattle.safety.proofs.Views.{Notes, of-new, of-append, of-read, standing, look}
 use Rattle.safety.proofs.Sizes.{Whole, Back, back}
-use Rattle.safety.proofs.Rowed.{holds-height}
+use Rattle.rules.proofs.FoundRows.{row-below}
 
 -- what is said by one statement, and by two
 there : {v : Statement} {l : List Statement} → v ∈ l → 0 < length l
@@ -99,7 +99,7 @@ module _ (h : Head) (whole : Whole h) (label tail : List ℕ) (sized : length la
       (height x y : ℕ) → row-holds label tail height ≡ true → look (roll-in k) label ≡ standing height tail
       → Signed k reading-size (statement-written (receipt-of h (Read height x y) label tail))
   read-signed height x y holds e =
-      let top = holds-height label tail height holds in
+      let top = row-below label tail height holds in
       let b : Back (reading-of height (low x) (low y)) =
       back (reading-of height (low x) (low y)) (record { arrays = arrays (Read height (low x) (low y)); numbers = (omega arith, low-below x, low-below y) })
       (read-fits height (low x) (low y) holds) in

@@ -8,6 +8,7 @@ use lib.Seq.{take-take, drop-drop, take-append-le, drop-append-le, drop-append-a
 use Rattle.octets.specs.Numbers.{number-of}
 use Rattle.octets.specs.Strings.{put}
 use Rattle.octets.proofs.Parts.{drop-take}
+use Rattle.statement.specs.Kinds.{digest-bytes}
 use Rattle.rows.specs.Sizes.{label-bytes, tail-bytes, height-bytes, row-bytes}
 use Rattle.rows.specs.Row.{label-of, tail-of, height-of}
 
@@ -88,3 +89,7 @@ module _ (a b : List ℕ) (i j : ℕ) (e : row-at a i ≡ row-at b j) where
 
   pub same-height : height-of a i ≡ height-of b j
   same-height = height-in-row a i ∙ ap (λ (r : List ℕ). number-of (take height-bytes (drop (label-bytes + tail-bytes) r))) e ∙ sym (height-in-row b j)
+
+pub tail-long : (rows : List ℕ) (i : ℕ) → row-bytes * i + row-bytes ≤ length rows → length (tail-of rows i) ≡ digest-bytes
+unfolding tail-of
+tail-long rows i h = part-long rows (row-bytes * i + label-bytes) digest-bytes (omega arith)

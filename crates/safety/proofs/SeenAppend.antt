@@ -2,22 +2,17 @@
 use mathlib.Core.Path.{_≡_, refl, ap, _∙_}
 use mathlib.Core.Bool.{not}
 use mathlib.Core.List.{List, [], _∷_, map}
-use Prim.Native.Nat.{ℕ, _+_, _<_}
+use Prim.Native.Nat.{ℕ}
 use native.Mathlib.Omega.{arith}
-use borrow.Author.Tests.{eqb-false}
-use lib.Dec.{eqb}
-use Rattle.refusals.specs.{accepted, no-such-ledger, out-of-order, height-at-top, not-active}
-use Rattle.refusals.proofs.Orders.{passes}
-use Rattle.rows.specs.Sizes.{top-height}
 use Rattle.statement.specs.declared.Kind.the-variants.{Append}
 use Rattle.statement.specs.declared.Statement.{Statement}
 use Rattle.statement.specs.Kinds.{label-bytes, receipt-size}
 use Rattle.statement.specs.Cut.{cut-statement}
-use Rattle.rules.specs.Record.{active}
-use Rattle.rules.specs.Outcomes.{Lent, given}
-use Rattle.rules.specs.Rows.{is-absent, sought, present-tail, present-height}
+use Rattle.rules.specs.Outcomes.{given}
+use Rattle.rules.specs.Rows.{present-tail, present-height}
 use Rattle.rules.specs.Append.{append-refusal, next-tail, next-height, moved-on, append-statement, appending}
-use Rattle.record.proofs.Firsts.{ready}
+use Rattle.rules.proofs.FoundRows.{row-labelled}
+use Rattle.rules.proofs.Noted.{row-of, Appendable, appendable}
 use Rattle.safety.specs.Calls.{Keeper, Call, lent, outcome-of, left-by, statements-in, Sized}
 use Rattle.safety.specs.Calls as calls
 use Rattle.safety.specs.Hashed.{roll-in}
@@ -25,24 +20,8 @@ use Rattle.safety.proofs.Views.{View, notes, Grows, look, standing}
 use Rattle.safety.proofs.Tales.{says}
 use Rattle.safety.proofs.Ended.{unless-refused, Gives, gives, seen-by, alone-in}
 use Rattle.safety.proofs.Sizes.{Whole, appended-long}
-use Rattle.safety.proofs.Rowed.{row-of, Rowed, rowed, holds-label, holds-height}
 use Rattle.safety.proofs.LooksChanged.{moved-shows, moved-grows}
 use Rattle.safety.proofs.Receipts.{Signed, append-signed, notes-one}
-
-pub record Appendable (k : Lent) (label : List ℕ) : Type 0 where
-  pub has : Rowed k label
-  pub below-top : present-height k label < top-height
-
-pub appendable : (size : ℕ) (k : Lent) (label : List ℕ) (expected : ℕ) → append-refusal size k label expected ≡ accepted → Appendable k label
-unfolding append-refusal
-appendable size k label expected e =
-    let r = ready size active not-active k _ (eqb-false 4 0 refl) e in
-    let a = passes (is-absent (sought k label)) no-such-ledger _ (eqb-false 10 0 refl) (r .1) in
-    let b = passes (not (eqb expected (present-height k label + 1))) out-of-order _ (eqb-false 11 0 refl) (a .1) in
-    let c = passes (eqb (present-height k label) top-height) height-at-top _ (eqb-false 12 0 refl) (b .1) in
-    let has = rowed size k label (r .0) (a .0) in
-    let top : (present-height k label ≡ top-height → ⊥) = eqb-false (present-height k label) top-height (c .0) in
-    record { has = has; below-top = omega (arith, holds-height label (present-tail k label) (present-height k label) (has .holds)) }
 
 -- the keeper after an append: its row as it then stands, and every row reached
 module _ (k : Keeper) (label entry area : List ℕ) (a : Appendable (lent k area) label) where
@@ -65,7 +44,7 @@ module _ (k : Keeper) (label entry area : List ℕ) (a : Appendable (lent k area
   unfolding append-statement
   append-said whole sized =
       append-signed (k .head) whole label (next-tail (lent k area) label entry) (sized .long) (appended-long (present-tail (lent k area) label) entry)
-      appended-to refl refl (next-height (lent k area) label) (holds-label label (present-tail (lent k area) label) (present-height (lent k area) label) (a .has .holds))
+      appended-to refl refl (next-height (lent k area) label) (ap not (row-labelled label (present-tail (lent k area) label) (present-height (lent k area) label) (a .has .holds)))
       (omega arith) (omega (arith, a .below-top)) append-shows
 
 module _ (Hashes : List ℕ → Type 0) (Said : List ℕ → Statement → Type 0) (key : List ℕ) (k : Keeper) (label entry : List ℕ) (expected : ℕ) (area : List ℕ) where

@@ -1,13 +1,11 @@
 -- Finalise is a closing, or a repeat that says nothing. Assumes nothing.
 use mathlib.Core.Path.{_≡_, refl, sym, ap, subst, _∙_}
-use mathlib.Core.Bool.{Bool, true, false, not, cond}
+use mathlib.Core.Bool.{Bool, true, false, cond}
 use mathlib.Core.List.{List, [], _∷_, map}
 use Prim.Native.Nat.{ℕ}
-use borrow.Author.Tests.{eqb-true, eqb-false, not-false}
 use lib.Dec.{eqb}
-use Rattle.refusals.specs.{accepted, not-active}
+use Rattle.refusals.specs.{accepted}
 use Rattle.refusals.specs.Order.{first}
-use Rattle.refusals.proofs.Orders.{passes}
 use Rattle.rack.specs.Racks.{rack-digest}
 use Rattle.rows.specs.Digests.{roll-digest}
 use Rattle.statement.specs.declared.Statement.{Statement}
@@ -15,9 +13,10 @@ use Rattle.statement.specs.Kinds.{handover-size}
 use Rattle.statement.specs.Contents.{statement-written}
 use Rattle.statement.specs.Cut.{cut-statement}
 use Rattle.rules.specs.declared.Head.{Head}
-use Rattle.rules.specs.Record.{active, finalised}
+use Rattle.rules.specs.Record.{finalised}
 use Rattle.rules.specs.Outcomes.{given, again, lending}
 use Rattle.rules.specs.Finalise.{finalise-size, finalise-statement, last-words, handed-over, finalise-refusal, leaving, finalising}
+use Rattle.rules.proofs.Finalised.{was-active}
 use Rattle.safety.specs.Calls.{Keeper, Call, Finalise, lent, outcome-of, left-by, accepts, statements-in}
 use Rattle.safety.specs.Histories.{_∈_, at-front}
 use Rattle.safety.specs.Hashed.{roll-string, roll-in, hashed-by}
@@ -58,18 +57,12 @@ module _ (Hashes : List ℕ → Type 0) (Said : List ℕ → Statement → Type 
         hashes (g .accepts-it) (roll-string (roll-in k))
         (subst (λ (x : Keeper). roll-string (roll-in k) ∈ hashed-by k x this) (sym (g .leaves)) at-front)
 
-    was-active : finalise-refusal (lent k area) next ≡ accepted → k .head .status ≡ active
-    unfolding finalise-refusal
-    was-active e =
-        let a = passes (not (eqb (k .head .status) active)) not-active _ (eqb-false 4 0 refl) e in
-        eqb-true (k .head .status) active (not-false (eqb (k .head .status) active) (a .0))
-
     closing : finalise-refusal (lent k area) next ≡ accepted → outcome-of key k this ≡ given (last-words new-head (k .table)) new-head (k .table) area → Looks
     closing e o =
         let g = gives key k this (last-words new-head (k .table)) new-head (k .table) area o in
         seen-by (g .leaves) (said-so g)
         (closes (record {
-          was = was-active e;
+          was = was-active (lent k area) next e;
           is = refl;
           stays = record { identity = refl; own = refl; previous = refl };
           roll-stays = refl;

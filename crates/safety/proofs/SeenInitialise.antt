@@ -3,12 +3,7 @@ use mathlib.Core.Path.{_≡_, refl, sym, ap, subst, _∙_}
 use mathlib.Core.Bool.{Bool, true, false, not, cond}
 use mathlib.Core.List.{List, [], _∷_, map}
 use Prim.Native.Nat.{ℕ}
-use borrow.Author.Tests.{eqb-false}
-use Rattle.refusals.specs.{accepted, not-blank, rack-broken, key-not-in-rack, roll-or-rack-alone}
 use Rattle.refusals.specs.Order.{first}
-use Rattle.refusals.proofs.Orders.{passes}
-use Rattle.octets.specs.Layouts.{holds}
-use Rattle.rack.specs.Racks.{rack-layout}
 use Rattle.rows.specs.Digests.{roll-digest}
 use Rattle.roll.specs.Roll.{roll-layout}
 use Rattle.statement.specs.declared.Statement.{Statement}
@@ -16,9 +11,8 @@ use Rattle.statement.specs.Kinds.{digest-bytes, handover-size}
 use Rattle.statement.specs.Cut.{cut-statement}
 use Rattle.rules.specs.declared.Head.{Head}
 use Rattle.rules.specs.Record.{blank}
-use Rattle.rules.specs.Outcomes.{Lent}
-use Rattle.rules.specs.Initialise.{absent, is-in-rack, initialise-refusal, initialise-statement, founded, preparing, entered, initialising}
-use Rattle.record.proofs.Firsts.{ready}
+use Rattle.rules.specs.Initialise.{absent, initialise-refusal, initialise-statement, founded, preparing, entered, initialising}
+use Rattle.rules.proofs.Initialised.{initialisable}
 use Rattle.safety.specs.Calls.{Keeper, Call, Initialise, lent, outcome-of, left-by, accepts, statements-in, Sized}
 use Rattle.safety.specs.Histories.{_∈_, at-front, behind}
 use Rattle.safety.specs.Hashed.{rack-string, hashed-by}
@@ -26,20 +20,6 @@ use Rattle.safety.proofs.Views.{View, founds, prepares, enter-of}
 use Rattle.safety.proofs.Tales.{says}
 use Rattle.safety.proofs.Ended.{unless-refused, Gives, gives, seen-by, alone-in}
 use Rattle.safety.proofs.Sizes.{Whole, rack-digest-long, roll-digest-long, Back, enter-back}
-
--- what is known where nothing refuses: the keeper is blank, and there is a previous rack where there is a roll
-pub record Initialisable (k : Lent) (roll previous : List ℕ) : Type 0 where
-  pub was : k .head .status ≡ blank
-  pub paired : cond (absent roll) (not (absent previous)) (absent previous) ≡ false
-
-pub initialisable : (k : Lent) (roll previous own : List ℕ) → initialise-refusal k roll previous own ≡ accepted → Initialisable k roll previous
-unfolding initialise-refusal
-initialisable k roll previous own e =
-    let r = ready handover-size blank not-blank k _ (eqb-false 3 0 refl) e in
-    let a = passes (not (holds rack-layout own)) rack-broken _ (eqb-false 6 0 refl) (r .1) in
-    let b = passes (not (is-in-rack (k .head .key) own)) key-not-in-rack _ (eqb-false 7 0 refl) (a .1) in
-    let c = passes (cond (absent roll) (not (absent previous)) (absent previous)) roll-or-rack-alone _ (eqb-false 8 0 refl) (b .1) in
-    record { was = r .0 .acts; paired = c .0 }
 
 -- the heads that it makes
 module _ (h : Head) (own : List ℕ) where

@@ -1,30 +1,19 @@
 -- New notes a row that was not there. Assumes nothing.
 use mathlib.Core.Path.{_≡_, refl, ap, _∙_}
-use mathlib.Core.Bool.{Bool, true, false, not}
+use mathlib.Core.Bool.{true, not}
 use mathlib.Core.List.{List, [], _∷_, map}
-use Prim.Native.Nat.{ℕ, _<_}
-use native.Mathlib.Omega.{arith}
-use borrow.Author.Tests.{eqb-false}
-use lib.Dec.{eqb}
-use Rattle.refusals.specs.{accepted, label-zero, ledger-exists, table-full, not-active}
-use Rattle.refusals.proofs.Orders.{passes}
+use Prim.Native.Nat.{ℕ}
 use Rattle.octets.specs.Strings.{all-zero}
-use Rattle.rows.specs.declared.Found.{Found}
-use Rattle.rows.specs.declared.Found.the-variants.{At, Absent}
-use Rattle.rows.specs.Sizes.{most-rows}
-use Rattle.rows.specs.Table.{rows-fit}
-use Rattle.rows.proofs.Tables.{fit-count}
 use Rattle.statement.specs.declared.Kind.the-variants.{New}
 use Rattle.statement.specs.declared.Statement.{Statement}
 use Rattle.statement.specs.Kinds.{label-bytes, receipt-size}
 use Rattle.statement.specs.Contents.{statement-written}
 use Rattle.statement.specs.Cut.{cut-statement, no-digest}
-use Rattle.rules.specs.Record.{active}
-use Rattle.rules.specs.Outcomes.{Lent, given}
+use Rattle.rules.specs.Outcomes.{given}
 use Rattle.rules.specs.Table.{smaller, widened}
-use Rattle.rules.specs.Rows.{is-absent, sought, receipt-of}
+use Rattle.rules.specs.Rows.{receipt-of}
 use Rattle.rules.specs.New.{one-more, new-refusal, making}
-use Rattle.record.proofs.Firsts.{ready, sound-rows}
+use Rattle.rules.proofs.Noted.{Makeable, makeable}
 use Rattle.safety.specs.Calls.{Keeper, Call, lent, outcome-of, left-by, statements-in, Sized}
 use Rattle.safety.specs.Calls as calls
 use Rattle.safety.proofs.Views.{View, notes}
@@ -34,28 +23,6 @@ use Rattle.safety.proofs.Sizes.{Whole}
 use Rattle.safety.proofs.RowsWidened.{smaller-most}
 use Rattle.safety.proofs.LooksChanged.{widened-shows, widened-grows}
 use Rattle.safety.proofs.Receipts.{Signed, new-signed, notes-one}
-
-pub record Makeable (k : Lent) (label : List ℕ) : Type 0 where
-  pub was : k .head .status ≡ active
-  pub fit : rows-fit (k .head .count) (k .table) ≡ true
-  pub labelled : all-zero label ≡ false
-  pub new : sought k label ≡ Absent
-  pub room : k .head .count < most-rows
-
-absent-so : (f : Found) → not (is-absent f) ≡ false → f ≡ Absent
-absent-so (At i) e = let z : _≡_ {A = Bool} true false = e in cc
-absent-so Absent e = refl
-
-pub makeable : (k : Lent) (label : List ℕ) → new-refusal k label ≡ accepted → Makeable k label
-unfolding new-refusal
-makeable k label e =
-    let r = ready receipt-size active not-active k _ (eqb-false 4 0 refl) e in
-    let a = passes (all-zero label) label-zero _ (eqb-false 14 0 refl) (r .1) in
-    let b = passes (not (is-absent (sought k label))) ledger-exists _ (eqb-false 9 0 refl) (a .1) in
-    let c = passes (eqb (k .head .count) most-rows) table-full _ (eqb-false 13 0 refl) (b .1) in
-    let fit : rows-fit (k .head .count) (k .table) ≡ true = sound-rows (k .head) (k .table) (r .0 .sounds) in
-    let full : (k .head .count ≡ most-rows → ⊥) = eqb-false (k .head .count) most-rows (c .0) in
-    record { was = r .0 .acts; fit = fit; labelled = a .0; new = absent-so (sought k label) (b .0); room = omega (arith, fit-count (k .head .count) (k .table) fit) }
 
 module _ (Hashes : List ℕ → Type 0) (Said : List ℕ → Statement → Type 0) (key : List ℕ) (k : Keeper) (label area : List ℕ) where
   abbrev this : Call

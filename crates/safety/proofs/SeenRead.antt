@@ -1,28 +1,21 @@
 -- Read notes a row as it stands, Append and read one that is moved on, by two statements. Assumes nothing.
 use mathlib.Core.Path.{_≡_, refl, ap, ap₂, _∙_}
-use mathlib.Core.Bool.{true, not}
+use mathlib.Core.Bool.{true}
 use mathlib.Core.List.{List, [], _∷_, _++_, map}
-use Prim.Native.Nat.{ℕ, _+_, _≤_}
-use native.Mathlib.Omega.{arith}
-use borrow.Author.Tests.{eqb-false, le-leb, ne-eqb}
+use Prim.Native.Nat.{ℕ, _+_}
 use lib.ListN.{take, drop}
-use Rattle.refusals.specs.{accepted, no-such-ledger, not-active}
-use Rattle.refusals.specs.Order.{_⇒_, first}
-use Rattle.refusals.proofs.Orders.{passes}
 use Rattle.octets.specs.Numbers.{number-of}
-use Rattle.octets.specs.Strings.{all-zero}
-use Rattle.rows.specs.Sizes.{top-height}
 use Rattle.rows.specs.Row.{row-holds}
 use Rattle.statement.specs.declared.Statement.{Statement}
 use Rattle.statement.specs.Kinds.{label-bytes, number-bytes, receipt-size, reading-size}
 use Rattle.statement.specs.Contents.{statement-written}
 use Rattle.statement.specs.Cut.{cut-statement}
-use Rattle.rules.specs.Record.{active}
-use Rattle.rules.specs.Outcomes.{Lent, given, readiness}
-use Rattle.rules.specs.Rows.{is-absent, sought, present-tail, present-height, receipt-of}
+use Rattle.rules.specs.Outcomes.{given}
+use Rattle.rules.specs.Rows.{present-tail, present-height, receipt-of}
 use Rattle.rules.specs.Append.{append-refusal, next-tail, next-height, moved-on, append-statement}
 use Rattle.rules.specs.Read.{read-kind, reading, appending-and-reading}
-use Rattle.record.proofs.Firsts.{ready}
+use Rattle.rules.proofs.FoundRows.{row-labelled, row-next}
+use Rattle.rules.proofs.Noted.{row-of, Rowed, readable, Appendable, appendable}
 use Rattle.safety.specs.Calls.{Keeper, Call, lent, outcome-of, left-by, statements-in, Sized}
 use Rattle.safety.specs.Calls as calls
 use Rattle.safety.specs.Hashed.{roll-in}
@@ -31,21 +24,9 @@ use Rattle.safety.proofs.Tales.{says}
 use Rattle.safety.proofs.Ended.{unless-refused, Gives, gives, seen-by, alone-in, first-in, next-in}
 use Rattle.safety.proofs.Sizes.{Whole, appended-long}
 use Rattle.safety.proofs.Looks.{look-at, grows-not}
-use Rattle.safety.proofs.Rowed.{row-of, Rowed, rowed, holds-label, tail-long}
+use Rattle.safety.proofs.RowsParts.{tail-long}
 use Rattle.safety.proofs.Receipts.{Signed, read-signed, notes-one, notes-two}
-use Rattle.safety.proofs.SeenAppend.{Appendable, appendable, append-shows, append-grows, append-said}
-
-readable :
-    (k : Lent) (label : List ℕ) → first (readiness reading-size active not-active k ++ (is-absent (sought k label) ⇒ no-such-ledger) ∷ []) ≡ accepted → Rowed k label
-readable k label e =
-    let r = ready reading-size active not-active k _ (eqb-false 4 0 refl) e in
-    let a = passes (is-absent (sought k label)) no-such-ledger _ (eqb-false 10 0 refl) (r .1) in
-    rowed reading-size k label (r .0) (a .0)
-
--- a row at a height that is not 0 may have any tail
-moved-holds : (label tail : List ℕ) (height : ℕ) → not (all-zero label) ≡ true → 1 ≤ height → height ≤ top-height → row-holds label tail height ≡ true
-unfolding row-holds
-moved-holds label tail height nonzero low high = rw (nonzero, le-leb height top-height high, ne-eqb height 0 (λ x. omega arith))
+use Rattle.safety.proofs.SeenAppend.{append-shows, append-grows, append-said}
 
 module _ (Hashes : List ℕ → Type 0) (Said : List ℕ → Statement → Type 0) (key : List ℕ) (k : Keeper) (whole : Whole (k .head)) (label : List ℕ) (sized : Sized label-bytes label) where
   module _ (nonce area : List ℕ) where
@@ -100,9 +81,9 @@ module _ (Hashes : List ℕ → Type 0) (Said : List ℕ → Statement → Type 
     unfolding statements-in
     noting-both a g =
         let s = append-said k label entry area a whole sized in
-        let nonzero = holds-label label (present-tail (lent k area) label) (present-height (lent k area) label) (a .has .holds) in
+        let named = row-labelled label (present-tail (lent k area) label) (present-height (lent k area) label) (a .has .holds) in
         let holds : row-holds label (next-tail (lent k area) label entry) (next-height (lent k area) label) ≡ true =
-        moved-holds label (next-tail (lent k area) label entry) (next-height (lent k area) label) nonzero (omega arith) (omega (arith, a .below-top)) in
+        row-next label (next-tail (lent k area) label entry) (present-height (lent k area) label) named (a .below-top) in
         let t : Signed left reading-size next-word =
         read-signed (k .head) whole label (next-tail (lent k area) label entry) (sized .long) (appended-long (present-tail (lent k area) label) entry) left refl refl
         (next-height (lent k area) label) (number-of (take number-bytes nonce)) (number-of (drop number-bytes nonce)) holds (append-shows k label entry area a) in

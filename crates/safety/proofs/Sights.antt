@@ -15,7 +15,7 @@ use Rattle.rows.specs.Search.{held, or-else, first-of, find}
 use Rattle.rows.proofs.Searches.{first-is}
 use Rattle.roll.specs.Roll.{Roll}
 use Rattle.safety.specs.Hashed.{roll-string}
-use Rattle.safety.proofs.Views.{nothing, standing, seen-at, look, Reaches, Grows}
+use Rattle.safety.proofs.Views.{standing, seen-at, look, Reaches, Grows}
 
 -- what is reached in a roll is reached where it grew
 pub reached-on : {v w : Roll} {label : List ℕ} {height : ℕ} {tail : List ℕ} → Grows v w → Reaches v label height tail → Reaches w label height tail

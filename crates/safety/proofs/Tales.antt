@@ -6,8 +6,7 @@ use Prim.Native.Nat.{ℕ}
 use Rattle.refusals.specs.{accepted}
 use Rattle.statement.specs.declared.Statement.{Statement}
 use Rattle.statement.specs.Cut.{cut-statement}
-use Rattle.desk.specs.declared.Finding.{Finding}
-use Rattle.desk.specs.Verdict.{Question, height-in, judging}
+use Rattle.desk.specs.Verdict.{Question, judging}
 use Rattle.safety.specs.Calls.{Keeper, Call, left-by, for-signing}
 use Rattle.safety.specs.Histories.{Event, At, Judged, keeper-after, called, _∈_}
 use Rattle.safety.specs.Hashed.{hashed-at}

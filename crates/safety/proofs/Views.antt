@@ -1,9 +1,8 @@
 -- What the proof knows of a call: each accepted one founds, prepares, notes, closes or activates, and any other changes nothing; an accepted verdict is vouched for. The proof of safety speaks of these views and of no rule. Assumes nothing.
 use mathlib.Core.Path.{_≡_}
 use mathlib.Core.List.{List, [], _∷_}
-use Prim.Native.Nat.{ℕ, suc, _+_, _≤_, _<_}
-use lib.ListN.{length}
-use Rattle.rack.specs.Racks.{Rack, rack-cut, rack-digest, majority}
+use Prim.Native.Nat.{ℕ, suc, _≤_, _<_}
+use Rattle.rack.specs.Racks.{rack-cut, rack-digest, majority}
 use Rattle.rows.specs.declared.Found.{Found}
 use Rattle.rows.specs.declared.Found.the-variants.{At, Absent}
 use Rattle.rows.specs.Row.{tail-of, height-of}
@@ -11,17 +10,16 @@ use Rattle.rows.specs.Search.{find}
 use Rattle.rows.specs.Digests.{roll-digest}
 use Rattle.roll.specs.Roll.{Roll}
 use Rattle.statement.specs.declared.Kind.{Kind}
-use Rattle.statement.specs.declared.Kind.the-variants.{Blank, New, Append, Read, Finalise, Initialise}
+use Rattle.statement.specs.declared.Kind.the-variants.{New, Append, Read, Finalise, Initialise}
 use Rattle.statement.specs.declared.Statement.{Statement}
 use Rattle.statement.specs.Cut.{no-digest, no-label}
-use Rattle.rules.specs.declared.Head.{Head}
 use Rattle.rules.specs.Record.{blank, prepared, active, finalised}
 use Rattle.desk.specs.Verdict.{height-in}
-use Rattle.safety.specs.Calls.{Keeper, Call, left-by}
-use Rattle.safety.specs.Histories.{Event, keeper-after, _∈_}
+use Rattle.safety.specs.Calls.{Keeper}
+use Rattle.safety.specs.Histories.{_∈_}
 use Rattle.safety.specs.Histories as histories
 use Rattle.safety.specs.Chip.{key-at}
-use Rattle.safety.specs.Hashed.{Hashed, rack-string, roll-string, roll-in}
+use Rattle.safety.specs.Hashed.{rack-string, roll-string, roll-in}
 
 -- what a roll shows of a label
 pub data Seen : Type 0 where

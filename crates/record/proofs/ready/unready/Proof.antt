@@ -4,7 +4,7 @@ use mathlib.Core.Bool.{Bool, cond}
 use borrow.Author.Tests.{eq-eqb, ne-eqb}
 use borrow.Author.Needs.{needs}
 use Rattle.refusals.specs.{accepted}
-use Rattle.record.proofs.Firsts.{unlent-unready, lent-ready}
+use Rattle.rules.proofs.Firsts.{unlent-unready, lent-ready}
 use Rattle.record.proofs.ready.unready.Statement.{statement}
 use Rattle.record.proofs.ready.unready.Tie as tie
 

@@ -1,2 +1,0 @@
--- The laws of a keeper's record that the calls' proofs cite.
-pub mod Firsts
