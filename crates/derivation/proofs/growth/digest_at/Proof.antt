@@ -1,37 +1,38 @@
+-- `derivation::growth::digest_at` meets its contract. Assumes nothing.
 use borrow.Author.Needs.{needs}
+use mathlib.Core.Path.{_≡_, ap, _∙_}
+use mathlib.Core.List.{List}
+use Prim.Native.Nat.{ℕ, _+_, _-_}
+use native.Mathlib.Omega.{arith}
+use denote.Ref.{now}
+use lib.ListN.{take, drop, length-take, length-drop}
+use Rattle.octets.proofs.Puts.{put-all}
 use Rattle.derivation.proofs.growth.digest_at.Statement.{statement}
 use Rattle.derivation.proofs.growth.digest_at.Tie as tie
-use Rattle.derivation.proofs.growth.digest_at.Reads as reads
-use Rattle.derivation.proofs.growth.digest_at.Lts as lts
-use Rattle.octets.proofs.copy_at.Reads as copy-at-reads
 
--- src/growth.rt:17:13
 slice-aggregate-copy-at : tie.Need-slice-aggregate-copy-at
 slice-aggregate-copy-at c = search needs
 
--- src/growth.rt:17:36
 add-copy-at : tie.Need-add-copy-at
 add-copy-at c = search needs
 
--- src/growth.rt:17:29
 sub-copy-at : tie.Need-sub-copy-at
 sub-copy-at c = search needs
 
--- src/growth.rt:17:29
 part-copy-at-start : tie.Need-part-copy-at-start
 part-copy-at-start c = search needs
 
--- src/growth.rt:17:29
 part-copy-at-end : tie.Need-part-copy-at-end
 part-copy-at-end c = search needs
 
--- src/growth.rt:17:5
 copy-at-requires : tie.Need-copy-at-requires
 copy-at-requires c κs = search needs
 
--- src/growth.rt:12:1
 returns : tie.Need-returns
-returns c = ?
+returns c =
+    let a = c .before .before .before .before .before .args in
+    let n : a .at + 32 - a .at ≡ 32 = omega arith in
+    c .before .copy-at .ensures ∙ put-all _ _ (simp (length-take, length-drop) (omega arith)) ∙ ap (λ (k : ℕ). take k (drop (a .at) (now (a .s)))) n
 
 pub digest-at-spec : {M : Type 1} → statement M
 digest-at-spec =

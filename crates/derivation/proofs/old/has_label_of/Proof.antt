@@ -1,33 +1,39 @@
+-- `derivation::old::has_label_of` meets its contract. Assumes nothing.
 use borrow.Author.Needs.{needs}
+use mathlib.Core.Path.{sym, ap, _∙_}
+use mathlib.Core.Bool.{not}
+use mathlib.Core.List.{List}
+use Prim.Native.Nat.{ℕ}
+use denote.Ref.{now}
+use Rattle.rows.specs.Search.{find}
+use Rattle.rows.specs.declared.Found.{Found}
+use Rattle.rules.specs.Rows.{is-absent}
 use Rattle.derivation.proofs.old.has_label_of.Statement.{statement}
 use Rattle.derivation.proofs.old.has_label_of.Tie as tie
-use Rattle.derivation.proofs.old.has_label_of.Reads as reads
-use Rattle.derivation.proofs.old.has_label_of.Lts as lts
-use Rattle.rows.proofs.label_at.Reads as label-at-reads
-use Rattle.rows.proofs.find.Reads as find-reads
 
--- src/old.rt:28:43
 label-at-requires : tie.Need-label-at-requires
 label-at-requires c κs = search needs
 
--- src/old.rt:28:25
 find-requires : tie.Need-find-requires
 find-requires c κs = search needs
 
 enum-told : tie.Need-enum-told
 enum-told c = search needs
 
--- src/old.rt:29:9
 enum-told-2 : tie.Need-enum-told-2
 enum-told-2 c = search needs
 
--- src/old.rt:29:9
 returns : tie.Need-returns
-returns c = ?
+returns c =
+    let a = c .before .before .before .before .before .before .args in
+    ap (λ (f : Found). not (is-absent f))
+    (sym (c .enum-told2 .given .1) ∙ c .before .before .find .ensures ∙ ap (find (a .count) (now (a .rows))) (c .before .before .before .label-at .ensures))
 
--- src/old.rt:24:1
 returns-2 : tie.Need-returns-2
-returns-2 c = ?
+returns-2 c =
+    let a = c .before .before .before .before .before .before .args in
+    ap (λ (f : Found). not (is-absent f))
+    (sym (c .enum-told .given .1) ∙ c .before .before .find .ensures ∙ ap (find (a .count) (now (a .rows))) (c .before .before .before .label-at .ensures))
 
 pub has-label-of-spec : {M : Type 1} → statement M
 has-label-of-spec =
