@@ -75,8 +75,9 @@ pub fn row_derived(ours: &[u8], r: usize, old: &[u8], size: usize, s: &[u8]) -> 
     requires { ⌜ (r < most-rows) × (length (now ours) ≡ table-bytes) × (length (now old) ≡ table-bytes) ⌝ }
     ensures { λ b. ⌜ ((n : ℕ) → b ≡ row-derived (record { count = n; rows = now (ours .entry) }) (record { count = size; rows = now (old .entry) }) r (now (s .entry)) (length (now (s .entry)) / digest-bytes)) ⌝ }
 {
-    let Found::At(q) = find(old, size, label_at(ours, r)) else {
-        return false;
-    };
-    is_grown(ours, r, old, q, s)
+    let found = find(old, size, label_at(ours, r));
+    match found {
+        Found::At(q) => is_grown(ours, r, old, q, s),
+        Found::Absent => false,
+    }
 }

@@ -16,8 +16,14 @@ label-at-requires c κs = search needs
 find-requires : tie.Need-find-requires
 find-requires c κs = search needs
 
-enum-known-q : tie.Need-enum-known-q
-enum-known-q c = search needs
+enum-known-found : tie.Need-enum-known-found
+enum-known-found c = search needs
+
+is-grown-requires : tie.Need-is-grown-requires
+is-grown-requires c κs =
+    let start = c .before .before .before .before .before .before .before .before in
+    let q = c .before .found .given in
+    (start .pre .0, found-within _ _ _ (q .0 .0) (sym (c .before .before .before .find .ensures) ∙ q .1), start .pre .1, start .pre .2)
 
 enum-told : tie.Need-enum-told
 enum-told c = search needs
@@ -25,25 +31,19 @@ enum-told c = search needs
 returns : tie.Need-returns
 unfolding row-derived
 returns c n =
-    let a = c .before .before .before .before .before .before .before .args in
-    let e : find (a .size) (now (a .old)) (label-of (now (a .ours)) (a .r)) ≡ Absent =
-    ap (find (a .size) (now (a .old))) (sym (c .before .before .before .label-at .ensures)) ∙ sym (c .before .before .find .ensures) ∙ c .enum-told .given .1 in
-    rw e
-
-is-grown-requires : tie.Need-is-grown-requires
-is-grown-requires c κs =
-    let start = c .before .before .before .before .before .before .before .before in
-    let q = c .before .q .given in
-    (start .pre .0, found-within _ _ _ (q .0 .0) (sym (c .before .before .before .find .ensures) ∙ q .1), start .pre .1, start .pre .2)
+    let a = c .before .before .before .before .before .before .before .before .before .args in
+    let q = c .before .before .found .given in
+    let e : find (a .size) (now (a .old)) (label-of (now (a .ours)) (a .r)) ≡ At (q .0 .0) =
+    ap (find (a .size) (now (a .old))) (sym (c .before .before .before .before .before .label-at .ensures)) ∙ sym (c .before .before .before .before .find .ensures) ∙ q .1 in
+    rw e (c .is-grown .ensures)
 
 returns-2 : tie.Need-returns-2
 unfolding row-derived
 returns-2 c n =
-    let a = c .before .before .before .before .before .before .before .before .before .args in
-    let q = c .before .before .q .given in
-    let e : find (a .size) (now (a .old)) (label-of (now (a .ours)) (a .r)) ≡ At (q .0 .0) =
-    ap (find (a .size) (now (a .old))) (sym (c .before .before .before .before .before .label-at .ensures)) ∙ sym (c .before .before .before .before .find .ensures) ∙ q .1 in
-    rw e (c .is-grown .ensures)
+    let a = c .before .before .before .before .before .before .before .args in
+    let e : find (a .size) (now (a .old)) (label-of (now (a .ours)) (a .r)) ≡ Absent =
+    ap (find (a .size) (now (a .old))) (sym (c .before .before .before .label-at .ensures)) ∙ sym (c .before .before .find .ensures) ∙ c .enum-told .given .1 in
+    rw e
 
 pub row-derived-spec : {M : Type 1} → statement M
 row-derived-spec =
@@ -51,8 +51,8 @@ row-derived-spec =
     (tie.spec
     label-at-requires
     find-requires
-    enum-known-q
+    enum-known-found
+    is-grown-requires
     enum-told
     returns
-    is-grown-requires
     returns-2)
