@@ -1,4 +1,10 @@
 // The marks byte: what the key chip found of a key and of its signature.
+mod entries;
+
+pub use entries::entries_fit;
+pub use entries::entry_fits;
+pub use entries::mark_refusal;
+pub use entries::unmarked;
 ghost use mathlib.Core.Path.{_≡_};
 ghost use Rattle.marks.specs.{attested, valid, marks-fit};
 
