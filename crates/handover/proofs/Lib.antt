@@ -1,0 +1,2 @@
+-- The laws that the proofs of taking over cite.
+pub mod Readings
