@@ -1,6 +1,6 @@
 -- Laws of a list of entries: by the lowest position that may come next, one entry more, one that does not fit, and what a list has that does. Assumes nothing.
-use mathlib.Core.Path.{_≡_, refl, sym, ap, _∙_}
-use mathlib.Core.Bool.{Bool, true, false, _&&_}
+use mathlib.Core.Path.{_≡_, sym}
+use mathlib.Core.Bool.{true, false, _&&_, and-false}
 use Prim.Native.Nat.{ℕ, zero, suc, _+_, _<_, _≤_}
 use native.Mathlib.Decide.{decLt}
 use native.Mathlib.Nat.{not-suc-le-zero}
@@ -26,10 +26,6 @@ unfolding goes-up lowest
 goes-by-lowest position zero = sym (le-leb 0 (position 0) (omega arith))
 goes-by-lowest position (suc i) = rw (add-one (position i))
 
-and-false : (p : Bool) {q : Bool} → q ≡ false → (p && q) ≡ false
-and-false true e = e
-and-false false e = refl
-
 module _ (n : ℕ) (position marks : ℕ → ℕ) where
   pub entry-by-lowest :
       (i low : ℕ) → low ≡ lowest position i → entry-fits n position marks i ≡ (ltb (position i) n && leb low (position i) && marks-fit (marks i))
@@ -48,7 +44,9 @@ module _ (n : ℕ) (position marks : ℕ → ℕ) where
     where
       go : (i < c → entries-fit n position marks c ≡ false) → Dec (i < c) → (entries-fit n position marks c && entry-fits n position marks c) ≡ false
       go earlier (yes l) = rw (earlier l)
-      go earlier (no g) = let e : i ≡ c = omega arith in and-false (entries-fit n position marks c) (rw e at k)
+      go earlier (no g) =
+          let e : i ≡ c = omega arith in
+          let f : entry-fits n position marks c ≡ false = rw e at k in rw f (and-false (entries-fit n position marks c))
 
   -- each entry of a list that fits
   pub fits-each : (c i : ℕ) → i < c → entries-fit n position marks c ≡ true → entry-fits n position marks i ≡ true

@@ -1,5 +1,5 @@
 -- Laws of the refusals of marks: their numbers, one entry more, the first entry that is refused, and what is known where none is. Assumes nothing.
-use mathlib.Core.Path.{_≡_, refl, sym, ap, _∙_}
+use mathlib.Core.Path.{_≡_, refl, sym, _∙_}
 use mathlib.Core.Bool.{Bool, true, false, not, _&&_}
 use mathlib.Core.List.{List, [], _∷_, _++_}
 use Prim.Native.Nat.{ℕ, zero, suc, _+_, _<_}
@@ -10,7 +10,7 @@ use native.Mathlib.Omega.{arith}
 use borrow.Author.Tests.{ne-eqb, eqb-false, not-false}
 use lib.Dec.{eqb}
 use Rattle.refusals.specs.{accepted, not-attested}
-use Rattle.refusals.specs.Order.{Test, _⇒_, first}
+use Rattle.refusals.specs.Order.{Test, first}
 use Rattle.refusals.proofs.Orders.{numbered, passes, stops, goes-on, none-refuses}
 use Rattle.marks.specs.{attested, valid, marks-fit}
 use Rattle.marks.specs.Entries.{mark-tests, marks-tests}
