@@ -1,0 +1,3 @@
+-- The places of a bundle, and what each test of one decides.
+pub mod Places
+pub mod Deciding
