@@ -1,2 +1,4 @@
 -- The laws that the proofs of taking over cite.
+pub mod Kept
+pub mod Places
 pub mod Readings

@@ -1,6 +1,6 @@
 // Activate.
 use crate::asking::unbundled;
-use crate::deriving::derived;
+use crate::descent::derived;
 use bundle::new_count;
 use bundle::old_count;
 use bundle::unmarked_new;

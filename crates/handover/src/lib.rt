@@ -2,7 +2,7 @@
 mod activating;
 mod asking;
 mod checking;
-mod deriving;
+mod descent;
 mod keeping;
 mod racks;
 mod reading;
