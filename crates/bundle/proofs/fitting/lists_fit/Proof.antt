@@ -1,52 +1,71 @@
+-- `bundle::fitting::lists_fit` meets its contract. The loop's invariant: `at` is where list `j` begins, not far past the end, and the lists passed fit.
+-- Assumes nothing.
+use mathlib.Core.Path.{_≡_, refl, sym, ap, _∙_}
+use mathlib.Core.Bool.{true}
+use Prim.Native.Nat.{ℕ, _≤_, _-_}
+use borrow.Author.Tests.{not-true, not-false}
+use denote.Ref.{now}
+use lib.ListN.{length}
+use lib.Dec.{eqb}
+use Rattle.rows.specs.Table.{each}
+use Rattle.rows.proofs.Tables.{each-next}
+use Rattle.rules.specs.Bundle.{list-at, added-fits}
+use Rattle.bundle.proofs.Places.{list-step, new-before-lists}
+use Rattle.bundle.proofs.Deciding.{list-fails, list-kept}
+use native.Mathlib.Omega.{arith}
 use Rattle.bundle.proofs.fitting.lists_fit.Statement.{statement}
 use Rattle.bundle.proofs.fitting.lists_fit.Tie as tie
-use Rattle.bundle.proofs.fitting.lists_fit.Reads as reads
-use Rattle.bundle.proofs.fitting.lists_fit.Lts as lts
-use Rattle.bundle.proofs.fitting.list_fits.Reads as list-fits-reads
-use Rattle.bundle.proofs.walks.first_list.Reads as first-list-reads
-use Rattle.bundle.proofs.walks.next_list.Reads as next-list-reads
 
 abbrev Inv-loop : tie.InvT-loop
-Inv-loop s count at₀ j₀ at j = ?
+Inv-loop s count at₀ j₀ at j = (j ≤ count) × (at ≡ list-at s j) × (at ≤ 70000) × (each (added-fits s) j ≡ true)
 
 abbrev μ-loop : tie.MeasureT-loop
-μ-loop s count at₀ j₀ at j = ?
+μ-loop s count at₀ j₀ at j = count - j
 
--- src/fitting.rt:91:9
 first-list-requires : tie.Need-first-list-requires Inv-loop μ-loop
-first-list-requires c κs = ?
+first-list-requires c κs = (omega (arith, new-before-lists (now (c .before .args .s)) 0), c .before .pre .1)
 
--- src/fitting.rt:93:5
 loop-holds : tie.Need-loop-holds Inv-loop μ-loop
-loop-holds c = ?
+unfolding each
+loop-holds c = (omega arith, c .first-list .ensures, omega (arith, c .first-list .ensures, c .before .before .pre .0, c .before .before .pre .1), refl)
 
--- src/fitting.rt:94:13
 list-fits-requires : tie.Need-list-fits-requires Inv-loop μ-loop
-list-fits-requires c κs = ?
+list-fits-requires c κs = omega arith
 
--- src/fitting.rt:95:13
 returns : tie.Need-returns Inv-loop μ-loop
-returns c = ?
+returns c =
+    let a = c .before .before .before .before .before .before .args in
+    let l = c .before .before .before .loop in
+    sym (list-fails (now (a .s)) (l .j) (l .at) (l .inv .1) (a .count) (omega arith) (sym (c .before .list-fits .ensures) ∙ not-true _ (c .if1 .taken)))
 
--- src/fitting.rt:97:9
 next-list-requires : tie.Need-next-list-requires Inv-loop μ-loop
-next-list-requires c κs = ?
+next-list-requires c κs =
+    let l = c .before .before .before .loop in
+    let k = list-kept (now (c .before .before .before .before .before .before .args .s)) (l .j) (l .at) (l .inv .1) (sym (c .before .list-fits .ensures) ∙ not-false _ (c .if1 .left)) in
+    (omega (arith, k .head), c .before .before .before .before .before .before .pre .1)
 
--- src/fitting.rt:98:9
 add-j : tie.Need-add-j Inv-loop μ-loop
-add-j c = ?
+add-j c = omega arith
 
--- src/fitting.rt:93:5
 loop-less : tie.Need-loop-less Inv-loop μ-loop
-loop-less c = ?
+loop-less c = omega arith
 
--- src/fitting.rt:93:5
 loop-again : tie.Need-loop-again Inv-loop μ-loop
-loop-again c = ?
+loop-again c =
+    let l = c .before .before .before .before .loop in
+    let s = now (c .before .before .before .before .before .before .before .args .s) in
+    let k = list-kept s (l .j) (l .at) (l .inv .1) (sym (c .before .before .list-fits .ensures) ∙ not-false _ (c .before .if1 .left)) in
+    let q = list-step s (l .j) (l .at) (l .inv .1) (c .next-list .ensures) in
+    (omega arith, q, omega (arith, q, k .near, c .before .before .before .before .before .before .before .pre .1), each-next (added-fits s) (l .j) (l .inv .3) (k .few))
 
--- src/fitting.rt:87:1
 returns-2 : tie.Need-returns-2 Inv-loop μ-loop
-returns-2 c = ?
+returns-2 c =
+    let a = c .before .before .before .before .args in
+    let l = c .before .loop in
+    let s = now (a .s) in
+    let e : l .j ≡ a .count = omega arith in
+    let f : each (added-fits s) (a .count) ≡ true = rw e at (l .inv .3) in
+    rw f (ap (λ (x : ℕ). eqb x (length s)) (l .inv .1 ∙ ap (list-at s) e))
 
 pub lists-fit-spec : {M : Type 1} → statement M
 lists-fit-spec =

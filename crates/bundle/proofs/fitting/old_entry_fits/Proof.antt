@@ -1,53 +1,63 @@
+-- `bundle::fitting::old_entry_fits` meets its contract. Assumes nothing.
+use mathlib.Core.Path.{sym, _∙_}
+use Prim.Native.Nat.{_+_}
+use borrow.Author.Tests.{lt-ltb, le-ltb, lt-leb, le-leb, not-true, not-false}
+use denote.Ref.{now}
+use lib.ListN.{length}
+use Rattle.rules.specs.Bundle.{byte}
 use borrow.Author.Needs.{needs}
+use native.Mathlib.Omega.{arith}
 use Rattle.bundle.proofs.fitting.old_entry_fits.Statement.{statement}
 use Rattle.bundle.proofs.fitting.old_entry_fits.Tie as tie
-use Rattle.bundle.proofs.fitting.old_entry_fits.Reads as reads
-use Rattle.bundle.proofs.fitting.old_entry_fits.Lts as lts
-use Rattle.marks.proofs.entry_fits.Reads as entry-fits-reads
 
--- src/fitting.rt:29:19
 add-if1 : tie.Need-add-if1
 add-if1 c = search needs
 
--- src/fitting.rt:30:9
 returns : tie.Need-returns
-returns c = ?
+returns c = let a = c .before .before .args in rw (le-ltb (a .at + 2) (length (now (a .s))) (omega arith))
 
--- src/fitting.rt:32:27
 shared-slice-read-entry-fits : tie.Need-shared-slice-read-entry-fits
 shared-slice-read-entry-fits c = search needs
 
--- src/fitting.rt:32:36
 add-entry-fits : tie.Need-add-entry-fits
 add-entry-fits c = search needs
 
--- src/fitting.rt:32:34
 shared-slice-read-entry-fits-2 : tie.Need-shared-slice-read-entry-fits-2
 shared-slice-read-entry-fits-2 c = search needs
 
--- src/fitting.rt:32:9
 entry-fits-requires : tie.Need-entry-fits-requires
 entry-fits-requires c κs = search needs
 
--- src/fitting.rt:33:9
 returns-2 : tie.Need-returns-2
-returns-2 c = ?
+returns-2 c =
+    let a = c .before .before .before .before .before .before .args in
+    rw (lt-ltb (a .at + 2) (length (now (a .s))) (omega arith), sym (c .before .entry-fits .ensures) ∙ not-true _ (c .if2 .taken))
 
--- src/fitting.rt:35:20
 add-blocks : tie.Need-add-blocks
 add-blocks c = search needs
 
--- src/fitting.rt:35:18
 shared-slice-read-blocks : tie.Need-shared-slice-read-blocks
 shared-slice-read-blocks c = search needs
 
--- src/fitting.rt:37:9
 returns-3 : tie.Need-returns-3
-returns-3 c = ?
+returns-3 c =
+    let a = c .before .before .before .before .before .before .before .before .args in
+    let s = now (a .s) in
+    rw (
+      lt-ltb (a .at + 2) (length s) (omega arith),
+      sym (c .before .before .before .entry-fits .ensures) ∙ not-false _ (c .before .before .if2 .left),
+      lt-leb 1 (byte s (a .at + 2)) (omega arith),
+    )
 
--- src/fitting.rt:25:1
 returns-4 : tie.Need-returns-4
-returns-4 c = ?
+returns-4 c =
+    let a = c .before .before .before .before .before .before .before .before .args in
+    let s = now (a .s) in
+    rw (
+      lt-ltb (a .at + 2) (length s) (omega arith),
+      sym (c .before .before .before .entry-fits .ensures) ∙ not-false _ (c .before .before .if2 .left),
+      le-leb 1 (byte s (a .at + 2)) (omega arith),
+    )
 
 pub old-entry-fits-spec : {M : Type 1} → statement M
 old-entry-fits-spec =

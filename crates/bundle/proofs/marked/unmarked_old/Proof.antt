@@ -1,60 +1,82 @@
+-- `bundle::marked::unmarked_old` meets its contract. The loop's invariant: `at` is where old entry `i` begins, and no entry passed is refused; one that is decides.
+-- Assumes nothing.
+use mathlib.Core.Path.{_≡_, refl, sym, ap, _∙_}
+use Prim.Native.Nat.{ℕ, _≤_, _+_, _-_}
+use denote.Ref.{now}
+use Rattle.refusals.specs.{accepted}
+use Rattle.refusals.specs.Order.{first}
+use Rattle.marks.specs.Entries.{mark-tests, marks-tests}
+use Rattle.marks.proofs.Refused.{unrefused-more, refused-at}
+use Rattle.rules.specs.Bundle.{byte, old-count, old-at, old-marks}
+use Rattle.bundle.proofs.Places.{new-some, old-step, old-before-new}
+use borrow.Author.Needs.{needs}
+use native.Mathlib.Omega.{arith}
 use Rattle.bundle.proofs.marked.unmarked_old.Statement.{statement}
 use Rattle.bundle.proofs.marked.unmarked_old.Tie as tie
-use Rattle.bundle.proofs.marked.unmarked_old.Reads as reads
-use Rattle.bundle.proofs.marked.unmarked_old.Lts as lts
-use Rattle.bundle.proofs.walks.next_old.Reads as next-old-reads
-use Rattle.bundle.proofs.walks.old_count.Reads as old-count-reads
-use Rattle.marks.proofs.mark_refusal.Reads as mark-refusal-reads
 
 abbrev Inv-loop : tie.InvT-loop
-Inv-loop s number count at₀ i₀ at i = ?
+Inv-loop s number count at₀ i₀ at i = (i ≤ count) × (at ≡ old-at s i) × (first (marks-tests number (old-marks s) i) ≡ accepted)
 
 abbrev μ-loop : tie.MeasureT-loop
-μ-loop s number count at₀ i₀ at i = ?
+μ-loop s number count at₀ i₀ at i = count - i
 
--- src/marked.rt:18:9
 old-count-requires : tie.Need-old-count-requires Inv-loop μ-loop
-old-count-requires c κs = ?
+old-count-requires c κs = omega (arith, new-some (now (c .before .args .s)))
 
--- src/marked.rt:21:5
 loop-holds : tie.Need-loop-holds Inv-loop μ-loop
-loop-holds c = ?
+unfolding old-at first marks-tests
+loop-holds c = (omega arith, refl, refl)
 
--- src/marked.rt:22:45
 add-mark-refusal : tie.Need-add-mark-refusal Inv-loop μ-loop
-add-mark-refusal c = ?
+add-mark-refusal c = omega (arith, old-before-new (now (c .before .before .before .before .args .s)) (c .before .loop .i) (omega (arith, c .before .before .old-count .ensures)))
 
--- src/marked.rt:22:43
 shared-slice-read-mark-refusal : tie.Need-shared-slice-read-mark-refusal Inv-loop μ-loop
-shared-slice-read-mark-refusal c = ?
+shared-slice-read-mark-refusal c =
+    let s = now (c .before .before .before .before .before .args .s) in
+    omega (arith, old-before-new s (c .before .before .loop .i) (omega (arith, c .before .before .before .old-count .ensures)))
 
--- src/marked.rt:22:13
 mark-refusal-requires : tie.Need-mark-refusal-requires Inv-loop μ-loop
-mark-refusal-requires c κs = ?
+mark-refusal-requires c κs = search needs
 
--- src/marked.rt:24:13
 returns : tie.Need-returns Inv-loop μ-loop
-returns c = ?
+returns c =
+    let a = c .before .before .before .before .before .before .before .args in
+    let l = c .before .before .before .before .loop in
+    let s = now (a .s) in
+    refused-at (a .number) (c .before .before .before .before .before .before .before .pre .0) (old-marks s) (old-count s) (l .i) (c .before .mark-refusal .result)
+    (omega (arith, c .before .before .before .before .before .old-count .ensures)) (l .inv .2)
+    (c .before .mark-refusal .ensures ∙ ap (λ (x : ℕ). first (mark-tests (a .number) (byte s (x + 1)))) (l .inv .1))
+    (c .if1 .taken)
 
--- src/marked.rt:26:9
 next-old-requires : tie.Need-next-old-requires Inv-loop μ-loop
-next-old-requires c κs = ?
+next-old-requires c κs =
+    let s = now (c .before .before .before .before .before .before .before .args .s) in
+    (omega (arith, old-before-new s (c .before .before .before .before .loop .i) (omega (arith, c .before .before .before .before .before .old-count .ensures))), c .before .before .before .before .before .before .before .pre .2)
 
--- src/marked.rt:27:9
 add-i : tie.Need-add-i Inv-loop μ-loop
-add-i c = ?
+add-i c = omega arith
 
--- src/marked.rt:21:5
 loop-less : tie.Need-loop-less Inv-loop μ-loop
-loop-less c = ?
+loop-less c = omega arith
 
--- src/marked.rt:21:5
 loop-again : tie.Need-loop-again Inv-loop μ-loop
-loop-again c = ?
+loop-again c =
+    let a = c .before .before .before .before .before .before .before .before .args in
+    let l = c .before .before .before .before .before .loop in
+    let s = now (a .s) in
+    let unrefused =
+    sym (ap (λ (x : ℕ). first (mark-tests (a .number) (byte s (x + 1)))) (l .inv .1)) ∙ sym (c .before .before .mark-refusal .ensures) ∙ c .before .if1 .left in (
+      omega arith,
+      old-step s (l .i) (l .at) (l .inv .1) (c .next-old .ensures),
+      unrefused-more (a .number) (c .before .before .before .before .before .before .before .before .pre .0) (old-marks s) (l .i) (l .inv .2) unrefused,
+    )
 
--- src/marked.rt:14:1
 returns-2 : tie.Need-returns-2 Inv-loop μ-loop
-returns-2 c = ?
+returns-2 c =
+    let a = c .before .before .before .before .args in
+    let l = c .before .loop in
+    let e : l .i ≡ old-count (now (a .s)) = omega (arith, c .before .before .old-count .ensures) in
+    sym (rw e at (l .inv .2))
 
 pub unmarked-old-spec : {M : Type 1} → statement M
 unmarked-old-spec =
