@@ -2,43 +2,20 @@
 use mathlib.Core.Path.{_≡_, sym, ap, _∙_}
 use mathlib.Core.List.{List}
 use Prim.Native.Nat.{ℕ, suc, _+_, _-_, _*_, _/_, _<_, _≤_}
-use native.Mathlib.Nat.{mul-suc, mul-le-mul-left, add-assoc}
+use native.Mathlib.Nat.{mul-suc, mul-le-mul-left}
 use native.Mathlib.Omega.{arith}
 use lib.ListN.{length, take, drop, length-drop}
 use lib.Seq.{length-take-le}
 use Rattle.rows.specs.Sizes.{most-rows}
-use Rattle.roll.specs.Blocks.{block-bytes}
 use Rattle.statement.specs.Kinds.{digest-bytes}
-use Rattle.rules.specs.Bundle.{byte, old-count, old-at, old-blocks, old-roll, new-at, new-count, two-byte, list-at, list-of, added, digests}
-use Rattle.bundle.proofs.Places.{old-next, list-next, old-later, list-later, list-ends, old-before-new, new-before-lists}
+use Rattle.rules.specs.Bundle.{old-count, old-at, new-at, new-count, two-byte, list-at, list-of, added, digests}
+use Rattle.bundle.proofs.Places.{old-next, list-next, list-later, list-ends, old-before-new, new-before-lists}
 use Rattle.handover.specs.Asked.{Laid}
 
 module _ (s : List ℕ) where
-  -- an old entry, where a walk is at it and at its end
-  module _ (i at end : ℕ) (p : at ≡ old-at s i) (q : end ≡ at + (3 + block-bytes * byte s (at + 2))) where
-    pub old-step : end ≡ old-at s (i + 1)
-    old-step = q ∙ ap (λ (k : ℕ). k + (3 + block-bytes * byte s (k + 2))) p ∙ sym (old-next s i)
-
-    pub old-part : take (end - (at + 3)) (drop (at + 3) s) ≡ old-roll s i
-    unfolding old-roll
-    old-part =
-        let e : end - (at + 3) ≡ block-bytes * byte s (at + 2) = omega arith in
-        ap (λ (n : ℕ). take n (drop (at + 3) s)) e ∙ ap (λ (k : ℕ). take (block-bytes * byte s (k + 2)) (drop (k + 3) s)) p
-
-    pub old-stop : i < old-count s → end ≤ new-at s
-    unfolding new-at
-    old-stop h = omega (arith, old-step, old-later s (i + 1) (old-count s) (omega arith))
-
-  -- a list of digests likewise
-  module _ (j at end : ℕ) (p : at ≡ list-at s j) (q : end ≡ at + (2 + digest-bytes * two-byte s at)) where
-    pub list-step : end ≡ list-at s (j + 1)
-    list-step = q ∙ ap (λ (k : ℕ). k + (2 + digest-bytes * two-byte s k)) p ∙ sym (list-next s j)
-
-    pub list-part : take (end - (at + 2)) (drop (at + 2) s) ≡ digests s j
-    unfolding digests
-    list-part =
-        let e : end - (at + 2) ≡ digest-bytes * two-byte s at = omega arith in
-        ap (λ (n : ℕ). take n (drop (at + 2) s)) e ∙ ap (λ (k : ℕ). take (digest-bytes * two-byte s k) (drop (k + 2) s)) p
+  -- the end of a list, where a walk is at it
+  pub list-step : (j at end : ℕ) → at ≡ list-at s j → end ≡ at + (2 + digest-bytes * two-byte s at) → end ≡ list-at s (j + 1)
+  list-step j at end p q = q ∙ ap (λ (k : ℕ). k + (2 + digest-bytes * two-byte s k)) p ∙ sym (list-next s j)
 
   pub digests-count : (j : ℕ) → list-at s j + (2 + digest-bytes * added s j) ≤ length s → length (digests s j) / digest-bytes ≡ added s j
   unfolding digests
@@ -64,5 +41,5 @@ module _ (rows : ℕ) (s : List ℕ) (l : Laid rows s) where
   pub new-lies : new-at s + (1 + 2 * new-count s) ≤ length s
   new-lies = omega (arith, l .ends, new-before-lists s (rows * old-count s))
 
-  pub old-lies : (i : ℕ) → i < old-count s → old-at s i + (3 + block-bytes * old-blocks s i) ≤ length s
-  old-lies i h = omega (arith, new-lies, old-before-new s i h)
+  pub old-lies : (i : ℕ) → i < old-count s → old-at s (i + 1) ≤ length s
+  old-lies i h = omega (arith, new-lies, old-next s i, old-before-new s i h)

@@ -1,10 +1,8 @@
 // Bytes to check.
 use crate::asking::unbundled;
-use bundle::OLD_HEAD;
 use bundle::new_count;
-use bundle::next_old;
-use bundle::old_at;
 use bundle::old_count;
+use bundle::old_roll;
 use record::acceptance;
 use record::give;
 use record::refusal;
@@ -79,10 +77,8 @@ fn old_digest(rows: usize, s: &[u8], i: usize) -> [u8; DIGEST]
     requires { ⌜ Laid rows (now s) × (i < old-count (now s)) × (roll-held (now s) i ≡ true) ⌝ }
     ensures { λ r. ⌜ r ≡ old-digest (now (s .entry)) i ⌝ }
 {
-    let at = old_at(s, i);
-    let end = next_old(s, at);
     let mut old = [0u8; TABLE];
-    let read = read_roll(&s[at + OLD_HEAD..end], &mut old);
+    let read = read_roll(old_roll(s, i), &mut old);
     roll_digest(read.count as usize, &old)
 }
 

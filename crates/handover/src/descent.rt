@@ -1,12 +1,10 @@
 // Whether a bundle's old rolls and digests lead to this keeper's roll.
 use crate::keeping::all_kept;
 use bundle::LIST_HEAD;
-use bundle::OLD_HEAD;
 use bundle::list_at;
 use bundle::next_list;
-use bundle::next_old;
-use bundle::old_at;
 use bundle::old_count;
+use bundle::old_roll;
 use derivation::no_more;
 use derivation::row_derived;
 use roll::read_roll;
@@ -45,10 +43,8 @@ fn roll_derived(table: &[u8], rows: usize, s: &[u8], i: usize) -> bool
     requires { ⌜ Laid rows (now s) × (length (now table) ≡ table-bytes) × (i < old-count (now s)) × (roll-held (now s) i ≡ true) ⌝ }
     ensures { λ b. ⌜ b ≡ rule.roll-derived (record { count = rows; rows = now (table .entry) }) (now (s .entry)) i ⌝ }
 {
-    let at = old_at(s, i);
-    let end = next_old(s, at);
     let mut old = [0u8; TABLE];
-    let read = read_roll(&s[at + OLD_HEAD..end], &mut old);
+    let read = read_roll(old_roll(s, i), &mut old);
     let size = read.count as usize;
     if no_more(table, rows, &old, size) {
         return rows_derived(table, rows, &old, size, s, i);

@@ -1,7 +1,6 @@
 // The rolls of old entries, read.
-use bundle::OLD_HEAD;
-use bundle::next_old;
 use bundle::old_count;
+use bundle::old_roll;
 use roll::read_roll;
 use rows::TABLE;
 ghost use mathlib.Core.Path.{_≡_};
@@ -28,14 +27,11 @@ pub fn rolls_hold(s: &[u8]) -> bool
     ensures { λ r. ⌜ r ≡ each (roll-held (now (s .entry))) (old-count (now (s .entry))) ⌝ }
 {
     let count = old_count(s);
-    let mut at: usize = 1;
     let mut i = 0;
     while i < count {
-        let end = next_old(s, at);
-        if !is_roll(&s[at + OLD_HEAD..end]) {
+        if !is_roll(old_roll(s, i)) {
             return false;
         }
-        at = end;
         i += 1;
     }
     true

@@ -1,79 +1,77 @@
+-- `handover::descent::roll_derived` meets its contract. Assumes nothing.
+use mathlib.Core.Path.{_≡_, sym, ap, _∙_}
+use mathlib.Core.Bool.{true, false}
+use denote.Ref.{now}
+use borrow.Author.Needs.{needs}
+use Rattle.rows.specs.Table.{each}
+use Rattle.rows.proofs.Tables.{fit-length, fit-count}
+use Rattle.roll.specs.Roll.{Roll}
+use Rattle.rules.specs.Derivation.{no-more, roll-of, roll-derived}
+use Rattle.handover.specs.Asked.{led}
+use Rattle.handover.proofs.Places.{old-lies}
+use Rattle.handover.proofs.Readings.{read-is, read-fits}
 use Rattle.handover.proofs.descent.roll_derived.Statement.{statement}
 use Rattle.handover.proofs.descent.roll_derived.Tie as tie
-use Rattle.handover.proofs.descent.roll_derived.Reads as reads
-use Rattle.handover.proofs.descent.roll_derived.Lts as lts
-use Rattle.bundle.proofs.next_old.Reads as next-old-reads
-use Rattle.bundle.proofs.old_at.Reads as old-at-reads
-use Rattle.derivation.proofs.no_more.Reads as no-more-reads
-use Rattle.handover.proofs.descent.rows_derived.Reads as rows-derived-reads
-use Rattle.roll.proofs.read_roll.Reads as read-roll-reads
 
--- src/descent.rt:48:9
-old-at-requires : tie.Need-old-at-requires
-old-at-requires c κs = ?
+old-roll-requires : tie.Need-old-roll-requires
+old-roll-requires c κs =
+    let start = c .before .before in
+    (old-lies (start .args .rows) (now (start .args .s)) (start .pre .0) (start .args .i) (start .pre .2), start .pre .0 .short)
 
--- src/descent.rt:49:9
-next-old-requires : tie.Need-next-old-requires
-next-old-requires c κs = ?
-
--- src/descent.rt:51:29
-add-read-roll : tie.Need-add-read-roll
-add-read-roll c = ?
-
--- src/descent.rt:51:26
-sub-read-roll : tie.Need-sub-read-roll
-sub-read-roll c = ?
-
--- src/descent.rt:51:26
-part-read-roll-start : tie.Need-part-read-roll-start
-part-read-roll-start c = ?
-
--- src/descent.rt:51:26
-part-read-roll-end : tie.Need-part-read-roll-end
-part-read-roll-end c = ?
-
--- src/descent.rt:51:9
 read-roll-requires : tie.Need-read-roll-requires
-read-roll-requires c κs = ?
+read-roll-requires c κs = search needs
 
--- src/descent.rt:52:16
 cast-size : tie.Need-cast-size
-cast-size c = ?
+cast-size c = search needs
 
--- src/descent.rt:53:29
 slice-aggregate-no-more : tie.Need-slice-aggregate-no-more
-slice-aggregate-no-more c = ?
+slice-aggregate-no-more c =
+    let start = c .before .before .before .before .before .before .before in
+    sym (fit-length _ _ (read-fits _ _ _ (c .before .before .read-roll .result .answer) (c .before .before .read-roll .result .count) (c .before .before .read-roll .last .1 .0) (c .before .before .before .before .old-roll .ensures) (start .pre .3) (c .before .before .read-roll .ensures)))
 
--- src/descent.rt:53:8
 no-more-requires : tie.Need-no-more-requires
-no-more-requires c κs = ?
+no-more-requires c κs =
+    let start = c .before .before .before .before .before .before .before in
+    let fit = read-fits _ _ _ (c .before .before .read-roll .result .answer) (c .before .before .read-roll .result .count) (c .before .before .read-roll .last .1 .0) (c .before .before .before .before .old-roll .ensures) (start .pre .3) (c .before .before .read-roll .ensures) in
+    (fit-count _ _ fit, fit-length _ _ fit)
 
--- src/descent.rt:54:42
 slice-aggregate-rows-derived : tie.Need-slice-aggregate-rows-derived
-slice-aggregate-rows-derived c = ?
+slice-aggregate-rows-derived c =
+    let start = c .before .before .before .before .before .before .before .before .before .before in
+    sym (fit-length _ _ (read-fits _ _ _ (c .before .before .before .before .before .read-roll .result .answer) (c .before .before .before .before .before .read-roll .result .count) (c .before .before .before .before .before .read-roll .last .1 .0) (c .before .before .before .before .before .before .before .old-roll .ensures) (start .pre .3) (c .before .before .before .before .before .read-roll .ensures)))
 
--- src/descent.rt:54:9
 rows-derived-requires : tie.Need-rows-derived-requires
-rows-derived-requires c κs = ?
+rows-derived-requires c κs =
+    let start = c .before .before .before .before .before .before .before .before .before .before in
+    (start .pre .0, start .pre .1, fit-length _ _ (read-fits _ _ _ (c .before .before .before .before .before .read-roll .result .answer) (c .before .before .before .before .before .read-roll .result .count) (c .before .before .before .before .before .read-roll .last .1 .0) (c .before .before .before .before .before .before .before .old-roll .ensures) (start .pre .3) (c .before .before .before .before .before .read-roll .ensures)), start .pre .2)
 
--- src/descent.rt:54:9
 returns : tie.Need-returns
-returns c = ?
+unfolding roll-derived
+returns c =
+    let start = c .before .before .before .before .before .before .before .before .before .before .before in
+    let a = start .args in
+    let s = now (a .s) in
+    let ours : Roll = record { count = a .rows; rows = now (a .table) } in
+    let read = read-is _ _ _ (c .before .before .before .before .before .before .read-roll .result .answer) (c .before .before .before .before .before .before .read-roll .result .count) (c .before .before .before .before .before .before .read-roll .last .1 .0) (c .before .before .before .before .before .before .before .before .old-roll .ensures) (start .pre .3) (c .before .before .before .before .before .before .read-roll .ensures) in
+    let no : no-more ours (roll-of s (a .i)) ≡ true = sym (ap (no-more ours) read) ∙ sym (c .before .before .before .no-more .ensures) ∙ c .before .before .if1 .taken in
+    rw no (c .rows-derived .ensures ∙ ap (λ (old : Roll). each (led ours old s (a .i)) (a .rows)) read)
 
--- src/descent.rt:44:1
 returns-2 : tie.Need-returns-2
-returns-2 c = ?
+unfolding roll-derived
+returns-2 c =
+    let start = c .before .before .before .before .before .before .before .before .before in
+    let a = start .args in
+    let s = now (a .s) in
+    let ours : Roll = record { count = a .rows; rows = now (a .table) } in
+    let read = read-is _ _ _ (c .before .before .before .before .read-roll .result .answer) (c .before .before .before .before .read-roll .result .count) (c .before .before .before .before .read-roll .last .1 .0) (c .before .before .before .before .before .before .old-roll .ensures) (start .pre .3) (c .before .before .before .before .read-roll .ensures) in
+    let no : no-more ours (roll-of s (a .i)) ≡ false = sym (ap (no-more ours) read) ∙ sym (c .before .no-more .ensures) ∙ c .if1 .left in
+    rw no
 
 pub roll-derived-spec : {M : Type 1} → statement M
 roll-derived-spec =
     tie.close
     (tie.spec
-    old-at-requires
-    next-old-requires
-    add-read-roll
-    sub-read-roll
-    part-read-roll-start
-    part-read-roll-end
+    old-roll-requires
     read-roll-requires
     cast-size
     slice-aggregate-no-more

@@ -13,8 +13,9 @@ use Rattle.rows.proofs.Tables.{each-next, each-fails}
 use Rattle.roll.specs.Roll.{Roll}
 use Rattle.rules.specs.Bundle.{old-count, list-at, list-of, digests}
 use Rattle.rules.specs.Derivation.{row-derived}
+use Rattle.bundle.proofs.Places.{digests-part}
 use Rattle.handover.specs.Asked.{led}
-use Rattle.handover.proofs.Places.{list-step, list-part, digests-count, list-below, few-lists, list-begins, list-lies}
+use Rattle.handover.proofs.Places.{list-step, digests-count, list-below, few-lists, list-begins, list-lies}
 use Rattle.handover.proofs.descent.rows_derived.Statement.{statement}
 use Rattle.handover.proofs.descent.rows_derived.Tie as tie
 
@@ -94,8 +95,9 @@ returns c =
     let old : Roll = record { count = a .size; rows = now (a .old) } in
     let j : ℕ = list-of (a .rows) (a .i) (l .r) in
     let below : j < a .rows * old-count s = list-below (a .rows) (a .i) (old-count s) (l .r) (start .pre .3) (omega arith) in
-    let one = c .before .row-derived .ensures (a .rows)
-    ∙ ap (λ (d : List ℕ). row-derived ours old (l .r) d (length d / 32)) (list-part s j (l .at) _ (l .inv .1) (c .before .before .before .next-list .ensures))
+    let one : c .before .row-derived .result ≡ led ours old s (a .i) (l .r) =
+    c .before .row-derived .ensures (a .rows)
+    ∙ ap (λ (d : List ℕ). row-derived ours old (l .r) d (length d / 32)) (digests-part s j (ap (λ (k : ℕ). k + 2) (l .inv .1)) (list-step s j (l .at) _ (l .inv .1) (c .before .before .before .next-list .ensures)))
     ∙ ap (row-derived ours old (l .r) (digests s j)) (digests-count s j (list-lies (a .rows) s (start .pre .0) j below)) in
     sym (each-fails (led ours old s (a .i)) (a .rows) (l .r) (omega arith) (sym one ∙ not-true _ (c .if1 .taken)))
 
@@ -115,8 +117,9 @@ loop-again c =
     let old : Roll = record { count = a .size; rows = now (a .old) } in
     let j : ℕ = list-of (a .rows) (a .i) (l .r) in
     let below : j < a .rows * old-count s = list-below (a .rows) (a .i) (old-count s) (l .r) (start .pre .3) (omega arith) in
-    let one = c .before .row-derived .ensures (a .rows)
-    ∙ ap (λ (d : List ℕ). row-derived ours old (l .r) d (length d / 32)) (list-part s j (l .at) _ (l .inv .1) (c .before .before .before .next-list .ensures))
+    let one : c .before .row-derived .result ≡ led ours old s (a .i) (l .r) =
+    c .before .row-derived .ensures (a .rows)
+    ∙ ap (λ (d : List ℕ). row-derived ours old (l .r) d (length d / 32)) (digests-part s j (ap (λ (k : ℕ). k + 2) (l .inv .1)) (list-step s j (l .at) _ (l .inv .1) (c .before .before .before .next-list .ensures)))
     ∙ ap (row-derived ours old (l .r) (digests s j)) (digests-count s j (list-lies (a .rows) s (start .pre .0) j below)) in
     let next : j + 1 ≡ list-of (a .rows) (a .i) (l .r + 1) = omega arith in
     (omega arith, list-step s j (l .at) _ (l .inv .1) (c .before .before .before .next-list .ensures) ∙ ap (list-at s) next, each-next (led ours old s (a .i)) (l .r) (l .inv .2) (sym one ∙ not-false _ (c .if1 .left)))

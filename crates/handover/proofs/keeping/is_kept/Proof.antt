@@ -5,7 +5,7 @@ use Prim.Native.Nat.{_≤_, _<_, _-_, _*_}
 use native.Mathlib.Omega.{arith}
 use denote.Ref.{now}
 use borrow.Author.Tests.{eq-eqb, ne-eqb}
-use Rattle.rules.specs.Bundle.{old-count, two-byte, list-of}
+use Rattle.rules.specs.Bundle.{old-count, two-byte, list-of, added}
 use Rattle.rules.specs.Derivation.{some}
 use Rattle.handover.specs.Asked.{none-added}
 use Rattle.handover.proofs.Kept.{some-next, some-found}
@@ -62,7 +62,7 @@ returns c =
     let s = now (a .s) in
     let l = c .before .before .before .before .loop in
     let h : l .i < old-count s = omega (arith, c .before .before .before .before .before .old-count .ensures) in
-    let n = c .before .added-at .ensures ∙ ap (two-byte s) (c .before .before .list-at .ensures) in
+    let n : c .before .added-at .result ≡ added s (list-of (a .rows) (l .i) (a .r)) = c .before .added-at .ensures .0 ∙ ap (two-byte s) (c .before .before .list-at .ensures) in
     sym (some-found (none-added s (a .rows) (a .r)) (old-count s) (l .i) h (eq-eqb _ 0 (sym n ∙ c .if1 .taken)))
 
 add-i : tie.Need-add-i Inv-loop μ-loop
@@ -76,7 +76,7 @@ loop-again c =
     let a = c .before .before .before .before .before .before .before .args in
     let s = now (a .s) in
     let l = c .before .before .before .before .loop in
-    let n = c .before .added-at .ensures ∙ ap (two-byte s) (c .before .before .list-at .ensures) in
+    let n : c .before .added-at .result ≡ added s (list-of (a .rows) (l .i) (a .r)) = c .before .added-at .ensures .0 ∙ ap (two-byte s) (c .before .before .list-at .ensures) in
     (omega arith, some-next (none-added s (a .rows) (a .r)) (l .i) (l .inv .1) (ne-eqb _ 0 (λ z. c .if1 .left (n ∙ z))))
 
 returns-2 : tie.Need-returns-2 Inv-loop μ-loop
