@@ -1,4 +1,6 @@
 -- The laws that the proofs of taking over cite.
+pub mod Cascades
 pub mod Kept
 pub mod Places
 pub mod Readings
+pub mod Statements

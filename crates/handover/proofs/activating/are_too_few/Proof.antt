@@ -1,51 +1,60 @@
+-- `handover::activating::are_too_few` meets its contract. Assumes nothing.
+use mathlib.Core.Path.{ap₂}
+use native.Mathlib.Omega.{arith}
+use denote.Ref.{now}
+use borrow.Author.Tests.{lt-ltb, le-ltb}
 use borrow.Author.Needs.{needs}
+use lib.Dec.{ltb}
+use Rattle.rack.specs.Racks.{rack-cut, majority}
+use Rattle.rack.proofs.RackTrips.{rack-length}
+use Rattle.rules.specs.Bundle.{old-count}
+use Rattle.rules.specs.Activate.{rack-size}
+use Rattle.bundle.proofs.Places.{bundle-short, new-within}
 use Rattle.handover.proofs.activating.are_too_few.Statement.{statement}
 use Rattle.handover.proofs.activating.are_too_few.Tie as tie
-use Rattle.handover.proofs.activating.are_too_few.Reads as reads
-use Rattle.handover.proofs.activating.are_too_few.Lts as lts
-use Rattle.bundle.proofs.new_count.Reads as new-count-reads
-use Rattle.bundle.proofs.old_count.Reads as old-count-reads
-use Rattle.rack.proofs.majority.Reads as majority-reads
 
--- src/activating.rt:30:8
 old-count-requires : tie.Need-old-count-requires
-old-count-requires c κs = ?
+old-count-requires c κs =
+    let start = c .before .before .before .before in
+    let a = start .args in
+    omega (arith, new-within (rack-size (now (a .previous))) (rack-size (now (a .own))) (a .head .count) (now (a .s)) (start .pre .fits))
 
--- src/activating.rt:30:32
 shared-slice-read-majority : tie.Need-shared-slice-read-majority
-shared-slice-read-majority c = ?
+shared-slice-read-majority c = let start = c .before .before .before .before .before .before in omega (arith, rack-length (now (start .args .previous)) (start .pre .before))
 
--- src/activating.rt:30:23
 majority-requires : tie.Need-majority-requires
 majority-requires c κs = search needs
 
--- src/activating.rt:30:23
 cast-if1 : tie.Need-cast-if1
 cast-if1 c = search needs
 
--- src/activating.rt:31:9
 returns : tie.Need-returns
-returns c = ?
+unfolding rack-cut
+returns c =
+    let a = c .before .before .before .before .before .before .before .before .args in
+    rw (lt-ltb (old-count (now (a .s))) (majority (rack-size (now (a .previous)))) (omega (arith, c .if1 .taken, c .before .before .before .old-count .ensures, c .before .majority .ensures)))
 
--- src/activating.rt:33:5
 new-count-requires : tie.Need-new-count-requires
-new-count-requires c κs = ?
+new-count-requires c κs =
+    let start = c .before .before .before .before .before .before .before .before in
+    let a = start .args in
+    (omega (arith, new-within (rack-size (now (a .previous))) (rack-size (now (a .own))) (a .head .count) (now (a .s)) (start .pre .fits)), bundle-short (rack-size (now (a .previous))) (rack-size (now (a .own))) (a .head .count) (now (a .s)) (start .pre .fits))
 
--- src/activating.rt:33:29
 shared-slice-read-majority-2 : tie.Need-shared-slice-read-majority-2
-shared-slice-read-majority-2 c = ?
+shared-slice-read-majority-2 c = let start = c .before .before .before .before .before .before .before .before .before .before in omega (arith, rack-length (now (start .args .own)) (start .pre .mine))
 
--- src/activating.rt:33:20
 majority-requires-2 : tie.Need-majority-requires-2
 majority-requires-2 c κs = search needs
 
--- src/activating.rt:33:20
 cast-result : tie.Need-cast-result
 cast-result c = search needs
 
--- src/activating.rt:26:1
 returns-2 : tie.Need-returns-2
-returns-2 c = ?
+unfolding rack-cut
+returns-2 c =
+    let a = c .before .before .before .before .before .before .before .before .before .before .before .args in
+    rw (le-ltb (old-count (now (a .s))) (majority (rack-size (now (a .previous)))) (omega (arith, c .before .before .before .if1 .left, c .before .before .before .before .before .before .old-count .ensures, c .before .before .before .before .majority .ensures)))
+    (ap₂ ltb (c .before .before .new-count .ensures) (c .majority2 .ensures))
 
 pub are-too-few-spec : {M : Type 1} → statement M
 are-too-few-spec =

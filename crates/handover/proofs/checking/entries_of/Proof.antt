@@ -1,30 +1,36 @@
+-- `handover::checking::entries_of` meets its contract. Assumes nothing.
+use native.Mathlib.Omega.{arith}
+use denote.Ref.{now}
+use borrow.Author.Tests.{eq-eqb, ne-eqb}
+use Rattle.rules.specs.Check.{entries-of}
+use Rattle.handover.proofs.Places.{new-lies}
 use Rattle.handover.proofs.checking.entries_of.Statement.{statement}
 use Rattle.handover.proofs.checking.entries_of.Tie as tie
-use Rattle.handover.proofs.checking.entries_of.Reads as reads
-use Rattle.handover.proofs.checking.entries_of.Lts as lts
-use Rattle.bundle.proofs.new_count.Reads as new-count-reads
-use Rattle.bundle.proofs.old_count.Reads as old-count-reads
 
--- src/checking.rt:44:9
 old-count-requires : tie.Need-old-count-requires
-old-count-requires c κs = ?
+old-count-requires c κs = let start = c .before .before in omega (arith, new-lies (start .args .rows) (now (start .args .s)) (start .pre))
 
--- src/checking.rt:44:9
 returns : tie.Need-returns
-returns c = ?
+unfolding entries-of
+returns c = rw (eq-eqb _ _ (c .before .if1 .taken)) (c .old-count .ensures)
 
--- src/checking.rt:47:9
 new-count-requires : tie.Need-new-count-requires
-new-count-requires c κs = ?
+new-count-requires c κs = let start = c .before .before .before in (omega (arith, new-lies (start .args .rows) (now (start .args .s)) (start .pre)), start .pre .short)
 
--- src/checking.rt:47:9
 returns-2 : tie.Need-returns-2
-returns-2 c = ?
+unfolding entries-of
+returns-2 c = rw (ne-eqb _ _ (c .before .before .if1 .left), eq-eqb _ _ (c .before .if2 .taken)) (c .new-count .ensures)
 
--- src/checking.rt:39:1
 returns-3 : tie.Need-returns-3
-returns-3 c = ?
+unfolding entries-of
+returns-3 c = rw (ne-eqb _ _ (c .before .if1 .left), ne-eqb _ _ (c .if2 .left))
 
 pub entries-of-spec : {M : Type 1} → statement M
 entries-of-spec =
-    tie.close (tie.spec old-count-requires returns new-count-requires returns-2 returns-3)
+    tie.close
+    (tie.spec
+    old-count-requires
+    returns
+    new-count-requires
+    returns-2
+    returns-3)

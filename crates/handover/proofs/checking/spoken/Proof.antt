@@ -1,43 +1,45 @@
+-- `handover::checking::spoken` meets its contract. Assumes nothing.
+use mathlib.Core.Path.{ap, _∙_}
+use mathlib.Core.List.{List}
+use Prim.Native.Nat.{ℕ}
+use borrow.Author.Tests.{eq-eqb, ne-eqb}
 use borrow.Author.Needs.{needs}
+use Rattle.statement.specs.declared.Kind.the-variants.{Finalise, Initialise}
+use Rattle.handover.specs.Asked.{handover-statement}
 use Rattle.handover.proofs.checking.spoken.Statement.{statement}
 use Rattle.handover.proofs.checking.spoken.Tie as tie
-use Rattle.handover.proofs.checking.spoken.Reads as reads
-use Rattle.handover.proofs.checking.spoken.Lts as lts
-use Rattle.handover.proofs.checking.handover_statement.Reads as handover-statement-reads
-use Rattle.handover.proofs.checking.old_digest.Reads as old-digest-reads
-use Rattle.rows.proofs.roll_digest.Reads as roll-digest-reads
 
--- src/checking.rt:116:31
 cast-old-digest : tie.Need-cast-old-digest
 cast-old-digest c = search needs
 
--- src/checking.rt:116:13
 old-digest-requires : tie.Need-old-digest-requires
-old-digest-requires c κs = ?
+old-digest-requires c κs =
+    let start = c .before .before .before .before .before .before .before in
+    (start .pre .0, start .pre .1 (c .before .if1 .taken), start .pre .2 (c .before .if1 .taken))
 
--- src/checking.rt:117:9
 handover-statement-requires : tie.Need-handover-statement-requires
 handover-statement-requires c κs = search needs
 
--- src/checking.rt:117:9
 returns : tie.Need-returns
-returns c = ?
+returns c =
+    let h = c .before .before .before .before .before .before .before .before .before .args .head in
+    rw (eq-eqb _ _ (c .before .before .before .if1 .taken))
+    (c .handover-statement .ensures ∙ ap (λ (d : List ℕ). handover-statement Finalise (h .identity) (h .previous) (h .own) d) (c .before .old-digest .ensures))
 
--- src/checking.rt:119:28
 cast-roll-digest : tie.Need-cast-roll-digest
 cast-roll-digest c = search needs
 
--- src/checking.rt:119:9
 roll-digest-requires : tie.Need-roll-digest-requires
 roll-digest-requires c κs = search needs
 
--- src/checking.rt:120:5
 handover-statement-requires-2 : tie.Need-handover-statement-requires-2
 handover-statement-requires-2 c κs = search needs
 
--- src/checking.rt:108:1
 returns-2 : tie.Need-returns-2
-returns-2 c = ?
+returns-2 c =
+    let h = c .before .before .before .before .before .before .before .before .before .args .head in
+    rw (ne-eqb _ _ (c .before .before .before .if1 .left))
+    (c .handover-statement2 .ensures ∙ ap (λ (d : List ℕ). handover-statement Initialise (h .identity) (h .own) (h .previous) d) (c .before .roll-digest .ensures))
 
 pub spoken-spec : {M : Type 1} → statement M
 spoken-spec =
