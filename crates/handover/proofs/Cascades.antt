@@ -23,7 +23,7 @@ use Rattle.rules.specs.Bundle.{old-count, old-marks, new-count, new-entries, bu
 use Rattle.rules.specs.Derivation.{derived}
 use Rattle.rules.specs.Activate.{rack-size, own-roll, racks-differ, bundle-tests, handover-tests}
 use Rattle.rules.specs.Check.{entries-of}
-use Rattle.record.proofs.Firsts.{ready, sound-rows}
+use Rattle.rules.proofs.Firsts.{ready, sound-rows}
 use Rattle.bundle.proofs.Places.{bundle-short, bundle-ends}
 use Rattle.handover.specs.Asked.{rack-tests, roll-held, Laid, Shown}
 
