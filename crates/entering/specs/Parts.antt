@@ -14,7 +14,7 @@ use Rattle.roll.specs.Roll.{roll-layout}
 use Rattle.statement.specs.declared.Kind.the-variants.{Initialise}
 use Rattle.statement.specs.declared.Statement.{Statement}
 use Rattle.statement.specs.Kinds.{handover-size}
-use Rattle.statement.specs.Cut.{no-digest, no-label}
+use Rattle.statement.specs.Cut.{handover-of}
 use Rattle.rules.specs.declared.Head.{Head}
 use Rattle.rules.specs.Outcomes.{Lent, Outcome}
 use Rattle.rules.specs.Initialise.{absent, is-in-rack, preparing, entered}
@@ -37,7 +37,7 @@ old-tests roll previous =
 -- the statement of a head and a table, before it is written
 abbrev pub spoken : Head → List ℕ → Statement
 spoken h table =
-    record { kind = Initialise; identity = h .identity; own = h .own; label = no-label; tail = no-digest; other = h .previous; roll = roll-digest (h .count) table }
+    handover-of Initialise (h .identity) (h .own) (h .previous) (roll-digest (h .count) table)
 
 -- what a keeper that takes over has been lent
 pub record Takeable (k : Lent) (roll previous own : List ℕ) : Type 0 where

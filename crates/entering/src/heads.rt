@@ -6,6 +6,7 @@ use rows::roll_digest;
 use rules::Head;
 use statement::Kind;
 use statement::Statement;
+use statement::handover_statement;
 ghost use mathlib.Core.Path.{_≡_};
 ghost use mathlib.Core.Bool.{true};
 ghost use Rattle.octets.specs.Layouts.{holds};
@@ -20,15 +21,8 @@ pub fn spoken(head: Head, table: &[u8]) -> Statement
     let identity = head.identity;
     let own = head.own;
     let previous = head.previous;
-    Statement {
-        kind: Kind::Initialise,
-        identity,
-        own,
-        label: [0u8; 16],
-        tail: [0u8; 32],
-        other: previous,
-        roll: roll_digest(head.count as usize, table),
-    }
+    let roll = roll_digest(head.count as usize, table);
+    handover_statement(Kind::Initialise, identity, own, previous, roll)
 }
 
 // The head of a keeper whose rack is founded.

@@ -13,10 +13,9 @@ use Rattle.rows.specs.Sizes.{most-rows}
 use Rattle.rows.specs.Table.{each, rows-fit}
 use Rattle.rows.specs.Digests.{roll-digest}
 use Rattle.roll.specs.Roll.{Roll, roll-layout}
-use Rattle.statement.specs.declared.Kind.{Kind}
 use Rattle.statement.specs.declared.Kind.the-variants.{Finalise, Initialise}
 use Rattle.statement.specs.declared.Statement.{Statement}
-use Rattle.statement.specs.Cut.{no-digest, no-label}
+use Rattle.statement.specs.Cut.{handover-of}
 use Rattle.rules.specs.declared.Head.{Head}
 use Rattle.rules.specs.Bundle.{longest-bundle, old-count, old-roll, list-at, list-of, added, digests, bundle-fits}
 use Rattle.rules.specs.Derivation.{some, row-derived, roll-of}
@@ -60,11 +59,6 @@ none-added s rows r i = eqb (added s (list-of rows i r)) 0
 abbrev pub kept : List ℕ → ℕ → ℕ → Bool
 kept s rows r = some (none-added s rows r) (old-count s)
 
--- a finalise or initialise statement
-abbrev pub handover-statement : Kind → List ℕ → List ℕ → List ℕ → List ℕ → Statement
-handover-statement kind identity own other roll =
-    record { kind = kind; identity = identity; own = own; label = no-label; tail = no-digest; other = other; roll = roll }
-
 -- the digest of the roll of old entry i
 abbrev pub old-digest : List ℕ → ℕ → List ℕ
 old-digest s i = roll-digest (roll-of s i .count) (roll-of s i .rows)
@@ -73,5 +67,5 @@ old-digest s i = roll-digest (roll-of s i .count) (roll-of s i .rows)
 abbrev pub spoken : Head → List ℕ → List ℕ → ℕ → ℕ → Statement
 spoken h table s list i =
     cond (eqb list old-list)
-    (handover-statement Finalise (h .identity) (h .previous) (h .own) (old-digest s i))
-    (handover-statement Initialise (h .identity) (h .own) (h .previous) (roll-digest (h .count) table))
+    (handover-of Finalise (h .identity) (h .previous) (h .own) (old-digest s i))
+    (handover-of Initialise (h .identity) (h .own) (h .previous) (roll-digest (h .count) table))

@@ -14,8 +14,8 @@ use rules::Head;
 use rules::Told;
 use statement::HANDOVER_SIZE;
 use statement::Kind;
-use statement::LABEL;
 use statement::Statement;
+use statement::handover_statement;
 ghost use mathlib.Core.Path.{_≡_};
 ghost use mathlib.Core.Bool.{true, not};
 ghost use mathlib.Core.List.{[], _∷_, _++_};
@@ -28,7 +28,7 @@ ghost use Rattle.rules.specs.Bundle.{old-count};
 ghost use Rattle.rules.specs.Outcomes.{Lent, outcome};
 ghost use Rattle.rules.specs.Activate.{bundle-tests};
 ghost use Rattle.rules.specs.Check.{entries-of, checking};
-ghost use Rattle.handover.specs.Asked.{Laid, Shown, roll-held, handover-statement, old-digest, spoken};
+ghost use Rattle.handover.specs.Asked.{Laid, Shown, roll-held, old-digest, spoken};
 
 // The lists by their numbers.
 const OLD: u8 = 0;
@@ -80,28 +80,6 @@ fn old_digest(rows: usize, s: &[u8], i: usize) -> [u8; DIGEST]
     let mut old = [0u8; TABLE];
     let read = read_roll(old_roll(s, i), &mut old);
     roll_digest(read.count as usize, &old)
-}
-
-fn handover_statement(
-    kind: Kind,
-    identity: [u8; DIGEST],
-    own: [u8; DIGEST],
-    other: [u8; DIGEST],
-    roll: [u8; DIGEST],
-) -> Statement
-    ensures { λ r. ⌜ r ≡ handover-statement kind identity own other roll ⌝ }
-{
-    let label = [0u8; LABEL];
-    let tail = [0u8; DIGEST];
-    Statement {
-        kind,
-        identity,
-        own,
-        label,
-        tail,
-        other,
-        roll,
-    }
 }
 
 // The statement that the marks of an entry speak of: the old keeper's last words, or this keeper's first.

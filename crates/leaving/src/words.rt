@@ -5,11 +5,10 @@ use roll::write_roll;
 use rows::TABLE;
 use rows::roll_digest;
 use rules::Head;
-use statement::DIGEST;
 use statement::HANDOVER_SIZE;
 use statement::Kind;
-use statement::LABEL;
 use statement::Statement;
+use statement::handover_statement;
 ghost use mathlib.Core.Path.{_≡_};
 ghost use mathlib.Core.Bool.{true};
 ghost use Prim.Native.Nat.{_*_, _≤_};
@@ -19,35 +18,19 @@ ghost use Rattle.rows.specs.Table.{rows-fit};
 ghost use Rattle.rows.specs.Digests.{roll-digest};
 ghost use Rattle.roll.specs.Blocks.{block-bytes, blocks, first-blocks};
 ghost use Rattle.statement.specs.declared.Kind.the-variants.{Finalise};
-ghost use Rattle.statement.specs.Cut.{no-digest, no-label};
+ghost use Rattle.statement.specs.Cut.{handover-of};
 ghost use Rattle.rules.specs.Bundle.{most-blocks};
 ghost use Rattle.rules.specs.Finalise.{finalise-size, last-words};
 
 // The finalise statement of a keeper with this head and table.
 fn last_statement(head: Head, table: &[u8]) -> Statement
-    ensures { λ r. ⌜ r ≡ record {
-      kind = Finalise;
-      identity = head .identity;
-      own = head .own;
-      label = no-label;
-      tail = no-digest;
-      other = head .next;
-      roll = roll-digest (head .count) (now (table .entry));
-    } ⌝ }
+    ensures { λ r. ⌜ r ≡ handover-of Finalise (head .identity) (head .own) (head .next) (roll-digest (head .count) (now (table .entry))) ⌝ }
 {
     let identity = head.identity;
     let own = head.own;
     let other = head.next;
     let roll = roll_digest(head.count as usize, table);
-    Statement {
-        kind: Kind::Finalise,
-        identity,
-        own,
-        label: [0u8; LABEL],
-        tail: [0u8; DIGEST],
-        other,
-        roll,
-    }
+    handover_statement(Kind::Finalise, identity, own, other, roll)
 }
 
 // Writes the blocks of a roll as the first bytes of an area that has room for seven; gives how many bytes.

@@ -32,6 +32,11 @@ no-digest = replicate digest-bytes 0
 abbrev pub no-label : List ℕ
 no-label = replicate label-bytes 0
 
+-- a statement of digests, without a label and a tail
+abbrev pub handover-of : Kind → List ℕ → List ℕ → List ℕ → List ℕ → Statement
+handover-of kind identity own other roll =
+    record { kind = kind; identity = identity; own = own; label = no-label; tail = no-digest; other = other; roll = roll }
+
 -- no statement
 unfoldable pub blank-statement : Statement
 blank-statement =

@@ -1,12 +1,14 @@
 // Statements: the record that they are read into and written from, and the two calls.
 mod cut;
 mod fits;
+mod handing;
 mod kinds;
 mod put;
 
 use cut::blank;
 use cut::cut;
 use fits::fits;
+pub use handing::handover_statement;
 pub use kinds::DIGEST;
 pub use kinds::HANDOVER_SIZE;
 pub use kinds::LABEL;
