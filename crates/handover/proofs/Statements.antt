@@ -15,12 +15,13 @@ use Rattle.rules.specs.Initialise.{initialise-statement}
 use Rattle.rules.specs.Finalise.{finalise-statement}
 use Rattle.rules.specs.Bundle.{old-count}
 use Rattle.rules.specs.Check.{old-list, entries-of, old-statement, spoken-of}
-use Rattle.handover.specs.Asked.{handover-statement, spoken}
+use Rattle.statement.specs.Cut.{handover-of}
+use Rattle.handover.specs.Asked.{spoken}
 
 -- either statement
 module _ (b : Bool) (i o p r i′ o′ p′ r′ : List ℕ) where
   abbrev either : Statement
-  either = cond b (handover-statement Finalise i o p r) (handover-statement Initialise i′ o′ p′ r′)
+  either = cond b (handover-of Finalise i o p r) (handover-of Initialise i′ o′ p′ r′)
 
 either-fits : (b : Bool) (i o p r i′ o′ p′ r′ : List ℕ) → statement-fits (either b i o p r i′ o′ p′ r′) ≡ true
 unfolding all-zero handover-fits fits-as statement-fits

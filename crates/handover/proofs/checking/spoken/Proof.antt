@@ -5,7 +5,7 @@ use Prim.Native.Nat.{ℕ}
 use borrow.Author.Tests.{eq-eqb, ne-eqb}
 use borrow.Author.Needs.{needs}
 use Rattle.statement.specs.declared.Kind.the-variants.{Finalise, Initialise}
-use Rattle.handover.specs.Asked.{handover-statement}
+use Rattle.statement.specs.Cut.{handover-of}
 use Rattle.handover.proofs.checking.spoken.Statement.{statement}
 use Rattle.handover.proofs.checking.spoken.Tie as tie
 
@@ -24,7 +24,7 @@ returns : tie.Need-returns
 returns c =
     let h = c .before .before .before .before .before .before .before .before .before .args .head in
     rw (eq-eqb _ _ (c .before .before .before .if1 .taken))
-    (c .handover-statement .ensures ∙ ap (λ (d : List ℕ). handover-statement Finalise (h .identity) (h .previous) (h .own) d) (c .before .old-digest .ensures))
+    (c .handover-statement .ensures ∙ ap (λ (d : List ℕ). handover-of Finalise (h .identity) (h .previous) (h .own) d) (c .before .old-digest .ensures))
 
 cast-roll-digest : tie.Need-cast-roll-digest
 cast-roll-digest c = search needs
@@ -39,7 +39,7 @@ returns-2 : tie.Need-returns-2
 returns-2 c =
     let h = c .before .before .before .before .before .before .before .before .before .args .head in
     rw (ne-eqb _ _ (c .before .before .before .if1 .left))
-    (c .handover-statement2 .ensures ∙ ap (λ (d : List ℕ). handover-statement Initialise (h .identity) (h .own) (h .previous) d) (c .before .roll-digest .ensures))
+    (c .handover-statement2 .ensures ∙ ap (λ (d : List ℕ). handover-of Initialise (h .identity) (h .own) (h .previous) d) (c .before .roll-digest .ensures))
 
 pub spoken-spec : {M : Type 1} → statement M
 spoken-spec =
