@@ -4,7 +4,6 @@ use mathlib.Core.Bool.{Bool, true, _&&_}
 use mathlib.Core.List.{List}
 use Prim.Native.Nat.{ℕ, zero, suc, _+_, _-_, _*_, _/_, _<_, _≤_}
 use native.Mathlib.Decide.{decLt}
-use native.Mathlib.Nat.{not-suc-le-zero}
 use native.Mathlib.Numerals.{add-one}
 use native.Mathlib.Omega.{arith}
 use borrow.Author.Tests.{leb-true, eqb-true}
@@ -16,6 +15,7 @@ use Rattle.octets.proofs.RoundTrips.{and-left, and-right}
 use Rattle.marks.specs.Entries.{entries-fit, pair-position, pair-marks}
 use Rattle.marks.proofs.Listed.{no-more-than}
 use Rattle.rows.specs.Table.{each}
+use Rattle.rows.proofs.Tables.{each-of}
 use Rattle.roll.specs.Blocks.{block-bytes}
 use Rattle.statement.specs.Kinds.{digest-bytes}
 use Rattle.rules.specs.Bundle.{longest-bundle, most-blocks, most-added, byte, old-count, old-at, old-position, old-marks, old-blocks, old-roll, blocks-fit}
@@ -117,16 +117,6 @@ module _ (s : List ℕ) where
     pub new-half : length (new-entries s) / 2 ≡ new-count s
     new-half = omega (arith, new-long)
 
--- what a test of each number below n gives of one of them
-each-gives : (test : ℕ → Bool) (n i : ℕ) → i < n → each test n ≡ true → test i ≡ true
-unfolding each
-each-gives test zero i h e = absurd (not-suc-le-zero h)
-each-gives test (suc n) i h e = go (λ l. each-gives test n i l (and-left (each test n) (test n) e)) (decLt i n)
-  where
-    go : (i < n → test i ≡ true) → Dec (i < n) → test i ≡ true
-    go earlier (yes l) = earlier l
-    go earlier (no g) = let q : i ≡ n = omega arith in rw q (and-right (each test n) (test n) e)
-
 -- what a bundle has
 module _ (n m rows : ℕ) (s : List ℕ) (fit : bundle-fits n m rows s ≡ true) where
   short : Bool
@@ -188,7 +178,7 @@ module _ (n m rows : ℕ) (s : List ℕ) (fit : bundle-fits n m rows s ≡ true)
 
   pub added-few : (j : ℕ) → j < rows * old-count s → added s j ≤ most-added
   unfolding counted added-fits
-  added-few j h = leb-true (added s j) most-added (each-gives (added-fits s) (rows * old-count s) j h (front .2))
+  added-few j h = leb-true (added s j) most-added (each-of (added-fits s) (rows * old-count s) j h (front .2))
 
   pub new-within : new-at s + (1 + 2 * new-count s) ≤ length s
   new-within = omega (arith, list-first s, list-within 0 (omega arith))
@@ -204,7 +194,7 @@ module _ (n m rows : ℕ) (s : List ℕ) (fit : bundle-fits n m rows s ≡ true)
   pub blocks-few : (i : ℕ) → i < old-count s → (1 ≤ old-blocks s i) × (old-blocks s i ≤ most-blocks)
   unfolding blocked blocks-fit
   blocks-few i h =
-      let e = each-gives (blocks-fit s) (old-count s) i h (and-right olds blocked (and-right short (olds && blocked) (front .0))) in (
+      let e = each-of (blocks-fit s) (old-count s) i h (and-right olds blocked (and-right short (olds && blocked) (front .0))) in (
         leb-true 1 (old-blocks s i) (and-left (leb 1 (old-blocks s i)) (leb (old-blocks s i) most-blocks) e),
         leb-true (old-blocks s i) most-blocks (and-right (leb 1 (old-blocks s i)) (leb (old-blocks s i) most-blocks) e),
       )

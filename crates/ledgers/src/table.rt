@@ -1,7 +1,6 @@
-// The ledger table: a row's tail and height, a row moved on, a row added.
+// The ledger table: a row moved on, a row added.
 use octets::copy_at;
 use octets::is_before;
-use octets::number_at;
 use octets::put_number;
 use rows::HEIGHT;
 use rows::LABEL;
@@ -9,6 +8,8 @@ use rows::ROW;
 use rows::TABLE;
 use rows::TAIL;
 use rows::appended;
+use rows::height_at;
+use rows::tail_at;
 ghost use mathlib.Core.Path.{_≡_};
 ghost use mathlib.Core.Bool.{cond};
 ghost use Prim.Native.Nat.{_+_, _*_, _≤_, _<_};
@@ -18,23 +19,6 @@ ghost use Rattle.rows.specs.Sizes.{most-rows, table-bytes, top-height};
 ghost use Rattle.rows.specs.Row.{label-of, tail-of, height-of};
 ghost use Rattle.rows.specs.Digests.{appended};
 ghost use Rattle.rules.specs.Table.{smaller, widened, moved};
-
-pub fn tail_at(table: &[u8], i: usize) -> [u8; 32]
-    requires { ⌜ (i < most-rows) × (length (now table) ≡ table-bytes) ⌝ }
-    ensures { λ r. ⌜ r ≡ tail-of (now (table .entry)) i ⌝ }
-{
-    let at = ROW * i + LABEL;
-    let mut tail = [0u8; TAIL];
-    copy_at(&mut tail, 0, &table[at..at + TAIL]);
-    tail
-}
-
-pub fn height_at(table: &[u8], i: usize) -> u64
-    requires { ⌜ (i < most-rows) × (length (now table) ≡ table-bytes) ⌝ }
-    ensures { λ r. ⌜ r ≡ height-of (now (table .entry)) i ⌝ }
-{
-    number_at(table, ROW * i + LABEL + TAIL)
-}
 
 // Row i gets another tail and height.
 pub fn move_row(table: &mut [u8], i: usize, tail: [u8; 32], height: u64)
