@@ -1,0 +1,4 @@
+-- A worked history that meets the premises of demand 3.
+pub mod Strings
+pub mod Digests
+pub mod Trial
