@@ -14,7 +14,7 @@ use Rattle.hash.specs.Sha256.{constants, initial-value, SHA-256, sha256}
 use Rattle.worked.proofs.Strings.{rack-A, rack-B, row, digest-A, digest-B, digest-none, digest-one, unchecked, check}
 
 -- opens, with its own name, all that a digest is worked out by
-shown : List ℕ → List ℕ
+unfoldable pub shown : List ℕ → List ℕ
 unfolding number-of bytes-of complement plus shl shr rotr Ch Maj upper-sigma lower-sigma word-bytes chunk-bytes length-bytes
     gap padded words chunk next-word grown schedule initial T₁ T₂ shifted round rounds summed compressed absorbed joined digest constants initial-value SHA-256 sha256
 shown m = sha256 m

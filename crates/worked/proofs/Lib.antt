@@ -1,4 +1,5 @@
 -- A worked history that meets the premises of demand 3.
 pub mod Strings
 pub mod Digests
-pub mod Trial
+pub mod Story
+pub mod Steps
