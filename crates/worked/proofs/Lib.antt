@@ -1,5 +1,7 @@
 -- A worked history that meets the premises of demand 3.
 pub mod Strings
 pub mod Digests
+pub mod Goings
 pub mod Story
 pub mod Steps
+pub mod Verdicts

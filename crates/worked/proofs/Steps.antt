@@ -1,5 +1,5 @@
 -- Each call of the worked history and its outcome, computed by the checker. Assumes nothing.
-use mathlib.Core.Path.{_≡_, refl}
+use mathlib.Core.Path.{refl}
 use mathlib.Core.List.{List, [], _∷_, _++_, flatten}
 use Prim.Native.Nat.{ℕ}
 use lib.ListN.{replicate}
@@ -17,7 +17,7 @@ use Rattle.roll.specs.Blocks.{blocks, head, places-of, checked, block, first-bl
 use Rattle.roll.specs.Roll.{said-count, filled, roll-layout}
 use Rattle.statement.specs.Contents.{receipt, body, statement-written}
 use Rattle.rules.specs.Record.{sound}
-use Rattle.rules.specs.Outcomes.{Outcome, accepting, refused, given, again, unless, lending, readiness}
+use Rattle.rules.specs.Outcomes.{refused, given, again, unless, lending, readiness}
 use Rattle.rules.specs.Table.{smaller, widened}
 use Rattle.rules.specs.Wake.{waking}
 use Rattle.rules.specs.Initialise.{is-in-rack, initialise-refusal, initialise-statement, entered, initialising}
@@ -27,9 +27,10 @@ use Rattle.rules.specs.Finalise.{finalise-statement, last-words, finalise-refus
 use Rattle.rules.specs.Bundle.{old-at, old-roll, new-at, new-entries, two-byte, list-at, digests, blocks-fit, added-fits, bundle-fits}
 use Rattle.rules.specs.Derivation.{some, no-more, grown, row-derived, roll-derived, kept-by-some, derived}
 use Rattle.rules.specs.Activate.{racks-differ, bundle-tests, handover-tests, activating}
-use Rattle.safety.specs.Calls.{Keeper, Call, Wake, lent, outcome-of}
+use Rattle.safety.specs.Calls.{Wake, outcome-of}
 use Rattle.worked.proofs.Strings.{key-A, key-B, empty-table, full-table, digest-A, digest-B, digest-none, digest-one, block-A, check}
 use Rattle.worked.proofs.Digests.{shown}
+use Rattle.worked.proofs.Goings.{Goes}
 use Rattle.worked.proofs.Story.{start, woken-A, founded-A, keeping-A, finalised-A, woken-B, prepared-B, active-B, founding-A, receipt-A, leaving-A, entering-B, reading-B, founds-A, makes-A, leaves-A, enters-B, activates-B, reads-B}
 
 -- opens, with its own name, the strings and the layouts that the rules go by
@@ -49,38 +50,34 @@ unfolding strings outcome-of sound refused given again unless lending readiness 
     some no-more grown row-derived roll-derived kept-by-some derived racks-differ bundle-tests handover-tests activating
 rules = 0
 
--- a call is accepted, so many bytes are written, and a keeper and an area are left
-abbrev pub leaving-with : ℕ → Keeper → List ℕ → Outcome
-leaving-with n k area = record { answer = accepting n; left = lent k area }
-
-pub step-1 : outcome-of key-A (start key-A) Wake ≡ leaving-with 0 woken-A []
+pub step-1 : Goes key-A (start key-A) Wake 0 woken-A []
 unfolding rules start
-step-1 = refl
+step-1 = record { outcome = refl }
 
-pub step-2 : outcome-of key-A woken-A founds-A ≡ leaving-with 129 founded-A founding-A
+pub step-2 : Goes key-A woken-A founds-A 129 founded-A founding-A
 unfolding rules
-step-2 = refl
+step-2 = record { outcome = refl }
 
-pub step-3 : outcome-of key-A founded-A makes-A ≡ leaving-with 121 keeping-A receipt-A
+pub step-3 : Goes key-A founded-A makes-A 121 keeping-A receipt-A
 unfolding rules
-step-3 = refl
+step-3 = record { outcome = refl }
 
-pub step-4 : outcome-of key-A keeping-A leaves-A ≡ leaving-with 641 finalised-A (leaving-A ++ block-A ++ replicate 3072 0)
+pub step-4 : Goes key-A keeping-A leaves-A 641 finalised-A (leaving-A ++ block-A ++ replicate 3072 0)
 unfolding rules
-step-4 = refl
+step-4 = record { outcome = refl }
 
-pub step-5 : outcome-of key-B (start key-B) Wake ≡ leaving-with 0 woken-B []
+pub step-5 : Goes key-B (start key-B) Wake 0 woken-B []
 unfolding rules start
-step-5 = refl
+step-5 = record { outcome = refl }
 
-pub step-6 : outcome-of key-B woken-B enters-B ≡ leaving-with 129 prepared-B entering-B
+pub step-6 : Goes key-B woken-B enters-B 129 prepared-B entering-B
 unfolding rules
-step-6 = refl
+step-6 = record { outcome = refl }
 
-pub step-7 : outcome-of key-B prepared-B activates-B ≡ leaving-with 0 active-B []
+pub step-7 : Goes key-B prepared-B activates-B 0 active-B []
 unfolding rules
-step-7 = refl
+step-7 = record { outcome = refl }
 
-pub step-8 : outcome-of key-B active-B reads-B ≡ leaving-with 137 active-B reading-B
+pub step-8 : Goes key-B active-B reads-B 137 active-B reading-B
 unfolding rules
-step-8 = refl
+step-8 = record { outcome = refl }
