@@ -5,3 +5,4 @@ pub mod Goings
 pub mod Story
 pub mod Steps
 pub mod Verdicts
+pub mod Kept
