@@ -1,7 +1,7 @@
 -- The digests of the worked history, computed by the checker. Assumes nothing.
 use mathlib.Core.Path.{_≡_, refl}
 use Prim.Native.Nat.{ℕ}
-use mathlib.Core.List.{List, [], _∷_, _++_}
+use mathlib.Core.List.{List, [], _∷_}
 use Rattle.octets.specs.Numbers.{number-of, bytes-of}
 use Rattle.hash.specs.Words.{complement, plus, shl, shr, rotr}
 use Rattle.hash.specs.Functions.{Ch, Maj, upper-sigma, lower-sigma}

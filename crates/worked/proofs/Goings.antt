@@ -1,5 +1,5 @@
 -- What the outcome of an accepted call says of the history that it is added to. Assumes nothing.
-use mathlib.Core.Path.{_≡_, refl, sym, ap, subst, _∙_}
+use mathlib.Core.Path.{_≡_, sym, ap, subst, _∙_}
 use mathlib.Core.Bool.{Bool, true, not, cond, _&&_}
 use mathlib.Core.List.{List, [], _∷_}
 use Prim.Native.Nat.{ℕ, zero, suc, _<_}
@@ -8,7 +8,7 @@ use native.Mathlib.Omega.{arith}
 use Rattle.refusals.specs.{accepted}
 use Rattle.octets.proofs.RoundTrips.{same-refl}
 use Rattle.statement.specs.Kinds.{digest-bytes}
-use Rattle.rules.specs.Outcomes.{Lent, Outcome, accepting}
+use Rattle.rules.specs.Outcomes.{Outcome, accepting}
 use Rattle.safety.specs.Calls.{Keeper, Call, lent, outcome-of, left-by, accepts, statements-in, for-signing, is-wake, Sized, Taken}
 use Rattle.safety.specs.Histories.{Event, At, keeper-after, called, _∈_, at-front, Returned, now-returned}
 use Rattle.safety.specs.Chip.{Honest, Orderly}

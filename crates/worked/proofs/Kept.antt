@@ -9,12 +9,14 @@ use Rattle.rack.specs.Racks.{rack-cut}
 use Rattle.rules.specs.Bundle.{old-position, old-marks, new-entries}
 use Rattle.rules.specs.Initialise.{initialise-statement}
 use Rattle.rules.specs.Check.{old-statement}
-use Rattle.safety.specs.Calls.{Keeper, Wake, statements-in, is-wake, Taken}
-use Rattle.safety.specs.Histories.{At, Judged, keeper-after, called, at-front, behind, Returned, before-returned}
+use Rattle.desk.specs.Verdict.{Question}
+use Rattle.safety.specs.Calls.{Keeper, Call, Wake, statements-in, is-wake, Taken}
+use Rattle.safety.specs.Histories.{Event, At, Judged, keeper-after, called, at-front, behind, Returned, before-returned}
 use Rattle.safety.specs.Chip.{key-at, Honest, Shown, Marked, Orderly, Lawful, at-first, and-then}
 use Rattle.worked.proofs.Strings.{key-A, key-B, rack-A, rack-B, full-table, digest-A, block-A}
 use Rattle.worked.proofs.Goings.{Leaves, goes-on, orderly, returns, honest, only}
-use Rattle.worked.proofs.Story.{keepers, start, woken-A, founded-A, keeping-A, finalised-A, woken-B, prepared-B, active-B, receipt-A, leaving-A, entering-B, reading-B, founds-A, makes-A, leaves-A, enters-B, bundle, activates-B, reads-B, signers, asks-A, asks-B, woken-first, founded, made, receipt-judged, left, woken-second, entered, activated, seen, history}
+use Rattle.worked.proofs.Story.{keepers, start, woken-A, founded-A, keeping-A, woken-B, prepared-B, active-B, receipt-A, leaving-A, entering-B, reading-B, founds-A, makes-A, leaves-A, enters-B}
+use Rattle.worked.proofs.Story.{bundle, activates-B, reads-B, signers, asks-A, asks-B, woken-first, founded, made, receipt-judged, left, woken-second, entered, activated, seen, history}
 use Rattle.worked.proofs.Steps.{strings, rules, step-1, step-2, step-3, step-4, step-5, step-6, step-7, step-8}
 
 -- the keepers as the history grows
@@ -110,43 +112,6 @@ order-8 : Orderly start activated (At key-B reads-B)
 unfolding called same is-wake Taken
 order-8 = orderly step-8 activated-is refl (record { long = refl }) (record { long = refl }, record { long = refl })
 
-order-A : Orderly start made (Judged asks-A receipt-A signers)
-unfolding Orderly
-order-A = tt
-
-order-B : Orderly start seen (Judged asks-B reading-B signers)
-unfolding Orderly
-order-B = tt
-
--- calls that are shown no marks
-marks-1 : Marked keepers start [] (At key-A Wake)
-unfolding Marked Shown
-marks-1 a = tt
-
-marks-2 : Marked keepers start woken-first (At key-A founds-A)
-unfolding Marked Shown
-marks-2 a = tt
-
-marks-3 : Marked keepers start founded (At key-A makes-A)
-unfolding Marked Shown
-marks-3 a = tt
-
-marks-4 : Marked keepers start receipt-judged (At key-A leaves-A)
-unfolding Marked Shown
-marks-4 a = tt
-
-marks-5 : Marked keepers start left (At key-B Wake)
-unfolding Marked Shown
-marks-5 a = tt
-
-marks-6 : Marked keepers start woken-second (At key-B enters-B)
-unfolding Marked Shown
-marks-6 a = tt
-
-marks-8 : Marked keepers start activated (At key-B reads-B)
-unfolding Marked Shown
-marks-8 a = tt
-
 -- the keys at the first place of the racks
 place-A : key-at rack-A 0 ≡ key-A
 unfolding key-at rack-cut pieces
@@ -186,9 +151,10 @@ new-honest =
 
 shown-7 : Shown keepers start entered prepared-B activates-B
 unfolding Shown rules
-shown-7 =
-    (only (λ i. Honest keepers start entered (key-at rack-A (old-position bundle i)) (old-marks bundle i) (old-statement (prepared-B .head) bundle i)) old-honest,
-    only (λ i. Honest keepers start entered (key-at rack-B (pair-position (new-entries bundle) i)) (pair-marks (new-entries bundle) i) (initialise-statement (prepared-B .head) full-table)) new-honest)
+shown-7 = (
+  only (λ i. Honest keepers start entered (key-at rack-A (old-position bundle i)) (old-marks bundle i) (old-statement (prepared-B .head) bundle i)) old-honest,
+  only (λ i. Honest keepers start entered (key-at rack-B (pair-position (new-entries bundle) i)) (pair-marks (new-entries bundle) i) (initialise-statement (prepared-B .head) full-table)) new-honest,
+)
 
 marks-7 : Marked keepers start entered (At key-B activates-B)
 unfolding Marked
@@ -206,7 +172,30 @@ marks-B a =
     only (λ i. Honest keepers start seen (key-at rack-B (pair-position signers i)) (pair-marks signers i) reading-B)
     (subst (λ (k : List ℕ). Honest keepers start seen k 3 reading-B) (sym place-B) (honest 3 (behind at-front) reading-returned))
 
+-- a call that is shown no marks
+unmarked : (h : List Event) (key : List ℕ) (call : Call) → ((k : Keeper) → Shown keepers start h k call) → Marked keepers start h (At key call)
+unfolding Marked
+unmarked h key call f a = f (keeper-after start h key)
+
+-- a verdict has no order
+unordered : (h : List Event) (q : Question) (s t : List ℕ) → Orderly start h (Judged q s t)
+unfolding Orderly
+unordered h q s t = tt
+
+lawful-A : Lawful keepers start left
+unfolding Shown
+lawful-A =
+    and-then order-4 (unmarked receipt-judged key-A leaves-A (λ k. tt))
+    (and-then (unordered made asks-A receipt-A signers) marks-A
+    (and-then order-3 (unmarked founded key-A makes-A (λ k. tt))
+    (and-then order-2 (unmarked woken-first key-A founds-A (λ k. tt))
+    (and-then order-1 (unmarked [] key-A Wake (λ k. tt)) at-first))))
+
 pub lawful : Lawful keepers start history
+unfolding Shown
 lawful =
-    and-then order-B marks-B (and-then order-8 marks-8 (and-then order-7 marks-7 (and-then order-6 marks-6 (and-then order-5 marks-5
-    (and-then order-4 marks-4 (and-then order-A marks-A (and-then order-3 marks-3 (and-then order-2 marks-2 (and-then order-1 marks-1 at-first)))))))))
+    and-then (unordered seen asks-B reading-B signers) marks-B
+    (and-then order-8 (unmarked activated key-B reads-B (λ k. tt))
+    (and-then order-7 marks-7
+    (and-then order-6 (unmarked woken-second key-B enters-B (λ k. tt))
+    (and-then order-5 (unmarked left key-B Wake (λ k. tt)) lawful-A))))

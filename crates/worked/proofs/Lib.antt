@@ -6,3 +6,5 @@ pub mod Story
 pub mod Steps
 pub mod Verdicts
 pub mod Kept
+pub mod Apart
+pub mod Both

@@ -1,10 +1,9 @@
 -- Each call of the worked history and its outcome, computed by the checker. Assumes nothing.
 use mathlib.Core.Path.{refl}
-use mathlib.Core.List.{List, [], _∷_, _++_, flatten}
+use mathlib.Core.List.{[], _++_, flatten}
 use Prim.Native.Nat.{ℕ}
 use lib.ListN.{replicate}
 use Rattle.refusals.specs.Order.{first}
-use Rattle.octets.specs.Numbers.{number-of, bytes-of}
 use Rattle.octets.specs.Strings.{put, all-zero, same, before, pieces, rising}
 use Rattle.octets.specs.Layouts.{holds}
 use Rattle.rack.specs.Racks.{rack-written, rack-cut, rack-fits, is-among, rack-digest}
@@ -31,7 +30,8 @@ use Rattle.safety.specs.Calls.{Wake, outcome-of}
 use Rattle.worked.proofs.Strings.{key-A, key-B, empty-table, full-table, digest-A, digest-B, digest-none, digest-one, block-A, check}
 use Rattle.worked.proofs.Digests.{shown}
 use Rattle.worked.proofs.Goings.{Goes}
-use Rattle.worked.proofs.Story.{start, woken-A, founded-A, keeping-A, finalised-A, woken-B, prepared-B, active-B, founding-A, receipt-A, leaving-A, entering-B, reading-B, founds-A, makes-A, leaves-A, enters-B, activates-B, reads-B}
+use Rattle.worked.proofs.Story.{start, woken-A, founded-A, keeping-A, finalised-A, woken-B, prepared-B, active-B, founding-A, receipt-A}
+use Rattle.worked.proofs.Story.{leaving-A, entering-B, reading-B, founds-A, makes-A, leaves-A, enters-B, activates-B, reads-B}
 
 -- opens, with its own name, the strings and the layouts that the rules go by
 unfoldable pub strings : ℕ

@@ -4,7 +4,6 @@ use mathlib.Core.List.{List, [], _∷_, _++_}
 use Prim.Native.Nat.{ℕ}
 use lib.ListN.{replicate}
 use Rattle.statement.specs.Cut.{no-digest}
-use Rattle.rules.specs.declared.Head.{Head}
 use Rattle.desk.specs.Verdict.{Question}
 use Rattle.safety.specs.Calls.{Keeper, Call, Wake, Initialise, New, Read, Finalise, Activate}
 use Rattle.safety.specs.Histories.{Event, At, Judged}
