@@ -1,7 +1,7 @@
 -- Laws of the places in a bundle: they only grow, so that a string that ends where its last list does has every part within; and what a bundle has. Assumes nothing.
 use mathlib.Core.Path.{_≡_, refl, sym, ap, _∙_}
 use mathlib.Core.Bool.{Bool, true, _&&_}
-use mathlib.Core.List.{List, [], _∷_}
+use mathlib.Core.List.{List}
 use Prim.Native.Nat.{ℕ, zero, suc, _+_, _-_, _*_, _/_, _<_, _≤_}
 use native.Mathlib.Decide.{decLt}
 use native.Mathlib.Nat.{not-suc-le-zero}
@@ -18,8 +18,8 @@ use Rattle.marks.proofs.Listed.{no-more-than}
 use Rattle.rows.specs.Table.{each}
 use Rattle.roll.specs.Blocks.{block-bytes}
 use Rattle.statement.specs.Kinds.{digest-bytes}
-use Rattle.rules.specs.Bundle.{longest-bundle, most-blocks, most-added, byte, old-count, old-at, old-position, old-marks, old-blocks, blocks-fit}
-use Rattle.rules.specs.Bundle.{new-at, new-count, new-entries, two-byte, list-at, added, added-fits, bundle-fits}
+use Rattle.rules.specs.Bundle.{longest-bundle, most-blocks, most-added, byte, old-count, old-at, old-position, old-marks, old-blocks, old-roll, blocks-fit}
+use Rattle.rules.specs.Bundle.{new-at, new-count, new-entries, two-byte, list-at, added, digests, added-fits, bundle-fits}
 
 -- what grows at each step has grown from any place to any later one
 grown : (f : ℕ → ℕ) → ((i : ℕ) → f i ≤ f (suc i)) → (i j : ℕ) → i ≤ j → f i ≤ f j
@@ -91,6 +91,17 @@ module _ (s : List ℕ) where
 
   pub new-before-lists : (j : ℕ) → new-at s + (1 + 2 * new-count s) ≤ list-at s j
   new-before-lists j = omega (arith, list-first, list-later 0 j (omega arith))
+
+  -- what stands between two places
+  pub roll-part : (i : ℕ) {from end : ℕ} → from ≡ old-at s i + 3 → end ≡ old-at s (i + 1) → take (end - from) (drop from s) ≡ old-roll s i
+  unfolding old-roll
+  roll-part i {from} {end} p q =
+      let e : end - from ≡ block-bytes * old-blocks s i = omega (arith, old-next i) in rw (e, p)
+
+  pub digests-part : (j : ℕ) {from end : ℕ} → from ≡ list-at s j + 2 → end ≡ list-at s (j + 1) → take (end - from) (drop from s) ≡ digests s j
+  unfolding digests
+  digests-part j {from} {end} p q =
+      let e : end - from ≡ digest-bytes * added s j = omega (arith, list-next j) in rw (e, p)
 
   -- the new entries, where they lie within
   module _ (within : list-at s 0 ≤ length s) where

@@ -2,29 +2,23 @@
 use crate::LONGEST;
 use crate::MOST_ADDED;
 use crate::MOST_BLOCKS;
+use crate::parts::new_entries;
 use crate::walks::added_at;
 use crate::walks::first_list;
-use crate::walks::new_at;
 use crate::walks::next_list;
 use crate::walks::next_old;
 use crate::walks::old_count;
 ghost use mathlib.Core.Path.{_≡_};
-ghost use mathlib.Core.Bool.{_&&_};
-ghost use Prim.Native.Nat.{_+_, _≤_, _<_};
+ghost use Prim.Native.Nat.{_≤_, _<_};
 ghost use lib.ListN.{length};
-ghost use lib.Dec.{eqb, leb, ltb};
-ghost use Rattle.marks.specs.{marks-fit};
-ghost use Rattle.marks.specs.Entries.{entries-fit, pair-position, pair-marks};
 ghost use Rattle.rows.specs.Sizes.{most-rows};
-ghost use Rattle.rows.specs.Table.{each};
-ghost use Rattle.rules.specs.Bundle.{longest-bundle, most-blocks, most-added, byte};
-ghost use Rattle.rules.specs.Bundle.{old-count, old-at, old-position, old-marks, blocks-fit};
-ghost use Rattle.rules.specs.Bundle.{new-at, new-count, new-entries, two-byte, list-at, added-fits, bundle-fits};
+ghost use Rattle.rules.specs.Bundle.{longest-bundle, new-at, list-at, bundle-fits};
+ghost use Rattle.bundle.specs.Walked.{old-asked, olds-end, news-end, list-asked, lists-end};
 
 // Whether an old entry may stand at a place, where `low` is the lowest position that comes after the entries before it.
 fn old_entry_fits(s: &[u8], at: usize, n: usize, low: usize) -> bool
     requires { ⌜ at ≤ 70000 ⌝ }
-    ensures { λ r. ⌜ r ≡ (ltb (at + 2) (length (now (s .entry))) && (ltb (byte (now (s .entry)) at) n && leb low (byte (now (s .entry)) at) && marks-fit (byte (now (s .entry)) (at + 1))) && (leb 1 (byte (now (s .entry)) (at + 2)) && leb (byte (now (s .entry)) (at + 2)) most-blocks)) ⌝ }
+    ensures { λ r. ⌜ r ≡ old-asked (now (s .entry)) n low at ⌝ }
 {
     if s.len() <= at + 2 {
         return false;
@@ -42,7 +36,7 @@ fn old_entry_fits(s: &[u8], at: usize, n: usize, low: usize) -> bool
 // Whether the old entries keep the rules for a rack of n, and end before the string does.
 fn old_entries_fit(s: &[u8], n: usize) -> bool
     requires { ⌜ (0 < length (now s)) × (length (now s) ≤ longest-bundle) ⌝ }
-    ensures { λ r. ⌜ r ≡ (entries-fit n (old-position (now (s .entry))) (old-marks (now (s .entry))) (old-count (now (s .entry))) && each (blocks-fit (now (s .entry))) (old-count (now (s .entry))) && ltb (new-at (now (s .entry))) (length (now (s .entry)))) ⌝ }
+    ensures { λ r. ⌜ r ≡ olds-end n (now (s .entry)) ⌝ }
 {
     let count = old_count(s);
     let mut low: usize = 0;
@@ -62,20 +56,18 @@ fn old_entries_fit(s: &[u8], n: usize) -> bool
 // Whether the new entries keep the rules for a rack of m, and end within the string.
 fn new_entries_fit(s: &[u8], m: usize) -> bool
     requires { ⌜ (new-at (now s) < length (now s)) × (length (now s) ≤ longest-bundle) ⌝ }
-    ensures { λ r. ⌜ r ≡ (leb (list-at (now (s .entry)) 0) (length (now (s .entry))) && entries-fit m (pair-position (new-entries (now (s .entry)))) (pair-marks (new-entries (now (s .entry)))) (new-count (now (s .entry)))) ⌝ }
+    ensures { λ r. ⌜ r ≡ news-end m (now (s .entry)) ⌝ }
 {
-    let from = new_at(s) + 1;
-    let end = first_list(s);
-    if s.len() < end {
+    if s.len() < first_list(s) {
         return false;
     }
-    marks::entries_fit(&s[from..end], m)
+    marks::entries_fit(new_entries(s), m)
 }
 
 // Whether a list of entry digests may stand at a place.
 fn list_fits(s: &[u8], at: usize) -> bool
     requires { ⌜ at ≤ 70000 ⌝ }
-    ensures { λ r. ⌜ r ≡ (ltb (at + 1) (length (now (s .entry))) && leb (two-byte (now (s .entry)) at) most-added) ⌝ }
+    ensures { λ r. ⌜ r ≡ list-asked (now (s .entry)) at ⌝ }
 {
     if s.len() <= at + 1 {
         return false;
@@ -86,7 +78,7 @@ fn list_fits(s: &[u8], at: usize) -> bool
 // Whether so many lists keep the rules, and end where the string does.
 fn lists_fit(s: &[u8], count: usize) -> bool
     requires { ⌜ (list-at (now s) 0 ≤ length (now s)) × (length (now s) ≤ longest-bundle) ⌝ }
-    ensures { λ r. ⌜ r ≡ (each (added-fits (now (s .entry))) count && eqb (list-at (now (s .entry)) count) (length (now (s .entry)))) ⌝ }
+    ensures { λ r. ⌜ r ≡ lists-end count (now (s .entry)) ⌝ }
 {
     let mut at = first_list(s);
     let mut j = 0;

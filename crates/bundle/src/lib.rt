@@ -1,11 +1,15 @@
 // Handover bundles: whether a string is one, where its parts stand, and the refusals of its marks.
 mod fitting;
 mod marked;
+mod parts;
 mod walks;
 
 pub use fitting::is_bundle;
 pub use marked::unmarked_new;
 pub use marked::unmarked_old;
+pub use parts::digests;
+pub use parts::new_entries;
+pub use parts::old_roll;
 pub use walks::added_at;
 pub use walks::first_list;
 pub use walks::list_at;

@@ -1,6 +1,5 @@
 // The refusals of the marks of a bundle's entries.
-use crate::walks::first_list;
-use crate::walks::new_at;
+use crate::parts::new_entries;
 use crate::walks::next_old;
 use crate::walks::old_count;
 ghost use mathlib.Core.Path.{_≡_};
@@ -34,7 +33,5 @@ pub fn unmarked_new(s: &[u8], number: u32) -> u32
     requires { ⌜ (0 < number) × (list-at (now s) 0 ≤ length (now s)) × (length (now s) ≤ longest-bundle) ⌝ }
     ensures { λ r. ⌜ r ≡ first (marks-tests number (pair-marks (new-entries (now (s .entry)))) (new-count (now (s .entry)))) ⌝ }
 {
-    let from = new_at(s) + 1;
-    let end = first_list(s);
-    marks::unmarked(&s[from..end], number)
+    marks::unmarked(new_entries(s), number)
 }

@@ -1,11 +1,15 @@
 // A ledger's row, the table of rows, the search in it, and the digests of both. Rows stand one behind the other in a string of bytes.
 mod digest;
+mod parts;
 mod row;
 mod search;
 mod table;
 
 pub use digest::appended;
 pub use digest::roll_digest;
+pub use parts::height_at;
+pub use parts::label_at;
+pub use parts::tail_at;
 pub use row::row_holds;
 pub use search::find;
 pub use table::rows_fit;

@@ -1,14 +1,10 @@
 -- `bundle::fitting::is_bundle` meets its contract: each test decides as the law of that test says. Assumes nothing.
 use mathlib.Core.Path.{sym, ap, _∙_}
-use mathlib.Core.Bool.{_&&_}
 use Prim.Native.Nat.{ℕ, _*_, _≤_}
 use native.Mathlib.Nat.{mul-le-mul}
 use borrow.Author.Tests.{not-true, not-false}
 use denote.Ref.{now}
-use lib.ListN.{length}
-use lib.Dec.{eqb}
-use Rattle.rows.specs.Table.{each}
-use Rattle.rules.specs.Bundle.{list-at, added-fits}
+use Rattle.bundle.specs.Walked.{lists-end}
 use Rattle.bundle.proofs.Deciding.{too-long, empty, old-decide, old-inside, new-decide, new-inside, lists-decide}
 use native.Mathlib.Omega.{arith}
 use Rattle.bundle.proofs.fitting.is_bundle.Statement.{statement}
@@ -32,7 +28,7 @@ new-entries-fit-requires : tie.Need-new-entries-fit-requires
 new-entries-fit-requires c κs =
     let a = c .before .before .before .before .before .args in
     let old = sym (c .before .old-entries-fit .ensures) ∙ not-false _ (c .if3 .left) in
-    (old-inside (a .n) (a .m) (a .rows) (now (a .s)) (omega arith) old, omega arith)
+    (old-inside (a .n) (now (a .s)) old, omega arith)
 
 returns-4 : tie.Need-returns-4
 returns-4 c =
@@ -51,9 +47,8 @@ mul-lists-fit c =
 lists-fit-requires : tie.Need-lists-fit-requires
 lists-fit-requires c κs =
     let a = c .before .before .before .before .before .before .before .before .args in
-    let old = sym (c .before .before .before .before .old-entries-fit .ensures) ∙ not-false _ (c .before .before .before .if3 .left) in
     let new = sym (c .before .before .new-entries-fit .ensures) ∙ not-false _ (c .before .if4 .left) in
-    (new-inside (a .n) (a .m) (a .rows) (now (a .s)) (omega arith) old new, omega arith)
+    (new-inside (a .m) (now (a .s)) new, omega arith)
 
 returns-5 : tie.Need-returns-5
 returns-5 c =
@@ -62,7 +57,7 @@ returns-5 c =
     let old = sym (c .before .before .before .before .before .old-entries-fit .ensures) ∙ not-false _ (c .before .before .before .before .if3 .left) in
     let new = sym (c .before .before .before .new-entries-fit .ensures) ∙ not-false _ (c .before .before .if4 .left) in
     c .lists-fit .ensures
-    ∙ ap (λ (k : ℕ). each (added-fits s) (a .rows * k) && eqb (list-at s (a .rows * k)) (length s)) (c .before .old-count .ensures)
+    ∙ ap (λ (k : ℕ). lists-end (a .rows * k) s) (c .before .old-count .ensures)
     ∙ lists-decide (a .n) (a .m) (a .rows) s (omega arith) old new
 
 pub is-bundle-spec : {M : Type 1} → statement M

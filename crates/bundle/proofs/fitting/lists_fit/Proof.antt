@@ -11,7 +11,7 @@ use Rattle.rows.specs.Table.{each}
 use Rattle.rows.proofs.Tables.{each-next}
 use Rattle.rules.specs.Bundle.{list-at, added-fits}
 use Rattle.bundle.proofs.Places.{list-step, new-before-lists}
-use Rattle.bundle.proofs.Deciding.{list-asked, list-fails, list-passes}
+use Rattle.bundle.proofs.Deciding.{list-fails, list-kept}
 use native.Mathlib.Omega.{arith}
 use Rattle.bundle.proofs.fitting.lists_fit.Statement.{statement}
 use Rattle.bundle.proofs.fitting.lists_fit.Tie as tie
@@ -36,15 +36,13 @@ returns : tie.Need-returns Inv-loop μ-loop
 returns c =
     let a = c .before .before .before .before .before .before .args in
     let l = c .before .before .before .loop in
-    let s = now (a .s) in
-    sym (list-fails s (a .count) (l .j) (omega arith) (sym (list-asked s (l .j) (l .at) (l .inv .1)) ∙ sym (c .before .list-fits .ensures) ∙ not-true _ (c .if1 .taken)))
+    sym (list-fails (now (a .s)) (l .j) (l .at) (l .inv .1) (a .count) (omega arith) (sym (c .before .list-fits .ensures) ∙ not-true _ (c .if1 .taken)))
 
 next-list-requires : tie.Need-next-list-requires Inv-loop μ-loop
 next-list-requires c κs =
     let l = c .before .before .before .loop in
-    let s = now (c .before .before .before .before .before .before .args .s) in
-    let p = list-passes s (l .j) (sym (list-asked s (l .j) (l .at) (l .inv .1)) ∙ sym (c .before .list-fits .ensures) ∙ not-false _ (c .if1 .left)) in
-    (omega (arith, p .0), c .before .before .before .before .before .before .pre .1)
+    let k = list-kept (now (c .before .before .before .before .before .before .args .s)) (l .j) (l .at) (l .inv .1) (sym (c .before .list-fits .ensures) ∙ not-false _ (c .if1 .left)) in
+    (omega (arith, k .head), c .before .before .before .before .before .before .pre .1)
 
 add-j : tie.Need-add-j Inv-loop μ-loop
 add-j c = omega arith
@@ -56,9 +54,9 @@ loop-again : tie.Need-loop-again Inv-loop μ-loop
 loop-again c =
     let l = c .before .before .before .before .loop in
     let s = now (c .before .before .before .before .before .before .before .args .s) in
-    let p = list-passes s (l .j) (sym (list-asked s (l .j) (l .at) (l .inv .1)) ∙ sym (c .before .before .list-fits .ensures) ∙ not-false _ (c .before .if1 .left)) in
+    let k = list-kept s (l .j) (l .at) (l .inv .1) (sym (c .before .before .list-fits .ensures) ∙ not-false _ (c .before .if1 .left)) in
     let q = list-step s (l .j) (l .at) (l .inv .1) (c .next-list .ensures) in
-    (omega arith, q, omega (arith, q, p .1, c .before .before .before .before .before .before .before .pre .1), each-next (added-fits s) (l .j) (l .inv .3) (p .2))
+    (omega arith, q, omega (arith, q, k .near, c .before .before .before .before .before .before .before .pre .1), each-next (added-fits s) (l .j) (l .inv .3) (k .few))
 
 returns-2 : tie.Need-returns-2 Inv-loop μ-loop
 returns-2 c =

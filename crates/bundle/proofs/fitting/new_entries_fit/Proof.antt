@@ -1,65 +1,43 @@
 -- `bundle::fitting::new_entries_fit` meets its contract. Assumes nothing.
-use mathlib.Core.Path.{_≡_, sym, ap, _∙_}
+use mathlib.Core.Path.{ap, _∙_}
 use mathlib.Core.List.{List}
-use Prim.Native.Nat.{ℕ, _+_, _≤_, _/_}
+use Prim.Native.Nat.{ℕ, _≤_, _/_}
 use borrow.Author.Tests.{le-leb, lt-leb}
 use denote.Ref.{now}
 use lib.ListN.{length}
 use Rattle.marks.specs.Entries.{entries-fit, pair-position, pair-marks}
-use Rattle.rules.specs.Bundle.{new-at, new-count, new-entries, list-at}
-use Rattle.bundle.proofs.Places.{list-first, new-part, new-half}
+use Rattle.rules.specs.Bundle.{new-entries, list-at}
+use Rattle.bundle.proofs.Places.{new-half}
 use borrow.Author.Needs.{needs}
 use native.Mathlib.Omega.{arith}
 use Rattle.bundle.proofs.fitting.new_entries_fit.Statement.{statement}
 use Rattle.bundle.proofs.fitting.new_entries_fit.Tie as tie
-
-new-at-requires : tie.Need-new-at-requires
-new-at-requires c κs = search needs
-
-add-from : tie.Need-add-from
-add-from c = search needs
 
 first-list-requires : tie.Need-first-list-requires
 first-list-requires c κs = search needs
 
 returns : tie.Need-returns
 returns c =
-    let s = now (c .before .before .before .before .args .s) in
+    let s = now (c .before .before .before .args .s) in
     rw (lt-leb (list-at s 0) (length s) (omega (arith, c .before .first-list .ensures)))
 
-sub-entries-fit : tie.Need-sub-entries-fit
-sub-entries-fit c = omega (arith, list-first (now (c .before .before .before .before .args .s)))
-
-part-entries-fit-start : tie.Need-part-entries-fit-start
-part-entries-fit-start c = omega (arith, list-first (now (c .before .before .before .before .args .s)))
-
-part-entries-fit-end : tie.Need-part-entries-fit-end
-part-entries-fit-end c = search needs
+new-entries-requires : tie.Need-new-entries-requires
+new-entries-requires c κs = search needs
 
 entries-fit-requires : tie.Need-entries-fit-requires
 entries-fit-requires c κs = search needs
 
 returns-2 : tie.Need-returns-2
 returns-2 c =
-    let a = c .before .before .before .before .before .before .args in
+    let a = c .before .before .before .before .before .args in
     let s = now (a .s) in
     let w : list-at s 0 ≤ length s = omega (arith, c .before .before .before .first-list .ensures) in
-    let t = new-part s w (ap (λ (x : ℕ). x + 1) (c .before .before .before .before .new-at .ensures)) (c .before .before .before .first-list .ensures) in
     rw (le-leb (list-at s 0) (length s) w)
     (c .entries-fit .ensures
-    ∙ ap (λ (l : List ℕ). entries-fit (a .m) (pair-position l) (pair-marks l) (length l / 2)) t
+    ∙ ap (λ (l : List ℕ). entries-fit (a .m) (pair-position l) (pair-marks l) (length l / 2)) (c .before .new-entries .ensures)
     ∙ ap (λ (k : ℕ). entries-fit (a .m) (pair-position (new-entries s)) (pair-marks (new-entries s)) k) (new-half s w))
 
 pub new-entries-fit-spec : {M : Type 1} → statement M
 new-entries-fit-spec =
     tie.close
-    (tie.spec
-    new-at-requires
-    add-from
-    first-list-requires
-    returns
-    sub-entries-fit
-    part-entries-fit-start
-    part-entries-fit-end
-    entries-fit-requires
-    returns-2)
+    (tie.spec first-list-requires returns new-entries-requires entries-fit-requires returns-2)

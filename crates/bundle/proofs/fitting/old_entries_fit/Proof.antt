@@ -13,13 +13,15 @@ use Rattle.rows.specs.Table.{each}
 use Rattle.rows.proofs.Tables.{each-next}
 use Rattle.rules.specs.Bundle.{byte, old-count, old-at, old-position, old-marks, blocks-fit, new-at}
 use Rattle.bundle.proofs.Places.{old-step}
-use Rattle.bundle.proofs.Deciding.{old-asked, old-fails, old-passes}
+use Rattle.bundle.proofs.Deciding.{old-fails, old-kept}
 use native.Mathlib.Omega.{arith}
 use Rattle.bundle.proofs.fitting.old_entries_fit.Statement.{statement}
 use Rattle.bundle.proofs.fitting.old_entries_fit.Tie as tie
 
 abbrev Inv-loop : tie.InvT-loop
-Inv-loop s n count low₀ at₀ i₀ low at i = (i ≤ count) × (at ≡ old-at s i) × (low ≡ lowest (old-position s) i) × (at ≤ 70000) × (entries-fit n (old-position s) (old-marks s) i ≡ true) × (each (blocks-fit s) i ≡ true)
+Inv-loop s n count low₀ at₀ i₀ low at i =
+    (i ≤ count) × (at ≡ old-at s i) × (low ≡ lowest (old-position s) i) × (at ≤ 70000)
+    × (entries-fit n (old-position s) (old-marks s) i ≡ true) × (each (blocks-fit s) i ≡ true)
 
 abbrev μ-loop : tie.MeasureT-loop
 μ-loop s n count low₀ at₀ i₀ low at i = count - i
@@ -38,18 +40,15 @@ returns : tie.Need-returns Inv-loop μ-loop
 returns c =
     let a = c .before .before .before .before .before .before .args in
     let l = c .before .before .before .loop in
-    let s = now (a .s) in
-    sym (old-fails (a .n) s (l .i) (omega (arith, c .before .before .before .before .old-count .ensures))
-    (sym (old-asked (a .n) s (l .i) (l .at) (l .low) (l .inv .1) (l .inv .2)) ∙ sym (c .before .old-entry-fits .ensures) ∙ not-true _ (c .if1 .taken)))
+    sym (old-fails (a .n) (now (a .s)) (l .i) (l .at) (l .low) (l .inv .1) (l .inv .2) (omega (arith, c .before .before .before .before .old-count .ensures))
+    (sym (c .before .old-entry-fits .ensures) ∙ not-true _ (c .if1 .taken)))
 
 shared-slice-read-low : tie.Need-shared-slice-read-low Inv-loop μ-loop
 shared-slice-read-low c =
     let a = c .before .before .before .before .before .before .before .args in
     let l = c .before .before .before .before .loop in
-    let s = now (a .s) in
-    let p =
-    old-passes (a .n) s (l .i) (sym (old-asked (a .n) s (l .i) (l .at) (l .low) (l .inv .1) (l .inv .2)) ∙ sym (c .before .before .old-entry-fits .ensures) ∙ not-false _ (c .before .if1 .left)) in
-    omega (arith, p .0)
+    let k = old-kept (a .n) (now (a .s)) (l .i) (l .at) (l .low) (l .inv .1) (l .inv .2) (sym (c .before .before .old-entry-fits .ensures) ∙ not-false _ (c .before .if1 .left)) in
+    omega (arith, k .head)
 
 cast-low : tie.Need-cast-low Inv-loop μ-loop
 cast-low c = omega (arith, c .shared-slice-known2 .given (c .before .before .before .before .loop .at))
@@ -61,10 +60,8 @@ next-old-requires : tie.Need-next-old-requires Inv-loop μ-loop
 next-old-requires c κs =
     let a = c .before .before .before .before .before .before .before .args in
     let l = c .before .before .before .before .loop in
-    let s = now (a .s) in
-    let p =
-    old-passes (a .n) s (l .i) (sym (old-asked (a .n) s (l .i) (l .at) (l .low) (l .inv .1) (l .inv .2)) ∙ sym (c .before .before .old-entry-fits .ensures) ∙ not-false _ (c .before .if1 .left)) in
-    (omega (arith, p .0), c .before .before .before .before .before .before .before .pre .1)
+    let k = old-kept (a .n) (now (a .s)) (l .i) (l .at) (l .low) (l .inv .1) (l .inv .2) (sym (c .before .before .old-entry-fits .ensures) ∙ not-false _ (c .before .if1 .left)) in
+    (omega (arith, k .head), c .before .before .before .before .before .before .before .pre .1)
 
 add-i : tie.Need-add-i Inv-loop μ-loop
 add-i c = omega arith
@@ -77,11 +74,16 @@ loop-again c =
     let a = c .before .before .before .before .before .before .before .before .args in
     let l = c .before .before .before .before .before .loop in
     let s = now (a .s) in
-    let p =
-    old-passes (a .n) s (l .i) (sym (old-asked (a .n) s (l .i) (l .at) (l .low) (l .inv .1) (l .inv .2)) ∙ sym (c .before .before .before .old-entry-fits .ensures) ∙ not-false _ (c .before .before .if1 .left)) in
+    let k = old-kept (a .n) s (l .i) (l .at) (l .low) (l .inv .1) (l .inv .2) (sym (c .before .before .before .old-entry-fits .ensures) ∙ not-false _ (c .before .before .if1 .left)) in
     let q = old-step s (l .i) (l .at) (l .inv .1) (c .next-old .ensures) in
-    let next = ap (λ (x : ℕ). byte s x + 1) (l .inv .1) ∙ sym (lowest-next (old-position s) (l .i)) in
-    (omega arith, q, next, omega (arith, q, p .1, c .before .before .before .before .before .before .before .before .pre .1), one-more (a .n) (old-position s) (old-marks s) (l .i) (l .inv .4) (p .2), each-next (blocks-fit s) (l .i) (l .inv .5) (p .3))
+    let next = ap (λ (x : ℕ). byte s x + 1) (l .inv .1) ∙ sym (lowest-next (old-position s) (l .i)) in (
+      omega arith,
+      q,
+      next,
+      omega (arith, q, k .near, c .before .before .before .before .before .before .before .before .pre .1),
+      one-more (a .n) (old-position s) (old-marks s) (l .i) (l .inv .4) (k .entry),
+      each-next (blocks-fit s) (l .i) (l .inv .5) (k .blocks),
+    )
 
 returns-2 : tie.Need-returns-2 Inv-loop μ-loop
 unfolding new-at

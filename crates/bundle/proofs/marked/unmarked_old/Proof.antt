@@ -31,7 +31,9 @@ add-mark-refusal : tie.Need-add-mark-refusal Inv-loop μ-loop
 add-mark-refusal c = omega (arith, old-before-new (now (c .before .before .before .before .args .s)) (c .before .loop .i) (omega (arith, c .before .before .old-count .ensures)))
 
 shared-slice-read-mark-refusal : tie.Need-shared-slice-read-mark-refusal Inv-loop μ-loop
-shared-slice-read-mark-refusal c = omega (arith, old-before-new (now (c .before .before .before .before .before .args .s)) (c .before .before .loop .i) (omega (arith, c .before .before .before .old-count .ensures)))
+shared-slice-read-mark-refusal c =
+    let s = now (c .before .before .before .before .before .args .s) in
+    omega (arith, old-before-new s (c .before .before .loop .i) (omega (arith, c .before .before .before .old-count .ensures)))
 
 mark-refusal-requires : tie.Need-mark-refusal-requires Inv-loop μ-loop
 mark-refusal-requires c κs = search needs
@@ -43,11 +45,13 @@ returns c =
     let s = now (a .s) in
     refused-at (a .number) (c .before .before .before .before .before .before .before .pre .0) (old-marks s) (old-count s) (l .i) (c .before .mark-refusal .result)
     (omega (arith, c .before .before .before .before .before .old-count .ensures)) (l .inv .2)
-    (c .before .mark-refusal .ensures ∙ ap (λ (x : ℕ). first (mark-tests (a .number) (byte s (x + 1)))) (l .inv .1)) (c .if1 .taken)
+    (c .before .mark-refusal .ensures ∙ ap (λ (x : ℕ). first (mark-tests (a .number) (byte s (x + 1)))) (l .inv .1))
+    (c .if1 .taken)
 
 next-old-requires : tie.Need-next-old-requires Inv-loop μ-loop
 next-old-requires c κs =
-    (omega (arith, old-before-new (now (c .before .before .before .before .before .before .before .args .s)) (c .before .before .before .before .loop .i) (omega (arith, c .before .before .before .before .before .old-count .ensures))), c .before .before .before .before .before .before .before .pre .2)
+    let s = now (c .before .before .before .before .before .before .before .args .s) in
+    (omega (arith, old-before-new s (c .before .before .before .before .loop .i) (omega (arith, c .before .before .before .before .before .old-count .ensures))), c .before .before .before .before .before .before .before .pre .2)
 
 add-i : tie.Need-add-i Inv-loop μ-loop
 add-i c = omega arith
@@ -61,8 +65,11 @@ loop-again c =
     let l = c .before .before .before .before .before .loop in
     let s = now (a .s) in
     let unrefused =
-    sym (ap (λ (x : ℕ). first (mark-tests (a .number) (byte s (x + 1)))) (l .inv .1)) ∙ sym (c .before .before .mark-refusal .ensures) ∙ c .before .if1 .left in
-    (omega arith, old-step s (l .i) (l .at) (l .inv .1) (c .next-old .ensures), unrefused-more (a .number) (c .before .before .before .before .before .before .before .before .pre .0) (old-marks s) (l .i) (l .inv .2) unrefused)
+    sym (ap (λ (x : ℕ). first (mark-tests (a .number) (byte s (x + 1)))) (l .inv .1)) ∙ sym (c .before .before .mark-refusal .ensures) ∙ c .before .if1 .left in (
+      omega arith,
+      old-step s (l .i) (l .at) (l .inv .1) (c .next-old .ensures),
+      unrefused-more (a .number) (c .before .before .before .before .before .before .before .before .pre .0) (old-marks s) (l .i) (l .inv .2) unrefused,
+    )
 
 returns-2 : tie.Need-returns-2 Inv-loop μ-loop
 returns-2 c =

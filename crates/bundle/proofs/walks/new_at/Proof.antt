@@ -1,8 +1,6 @@
 -- `bundle::walks::new_at` meets its contract. Assumes nothing.
-use mathlib.Core.Path.{_≡_, ap, _∙_}
-use Prim.Native.Nat.{_≤_}
+use mathlib.Core.Path.{ap, _∙_}
 use denote.Ref.{now}
-use lib.ListN.{length}
 use Rattle.rules.specs.Bundle.{old-at, new-at}
 use Rattle.bundle.proofs.Places.{new-some}
 use native.Mathlib.Omega.{arith}

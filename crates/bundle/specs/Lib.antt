@@ -1,0 +1,2 @@
+-- What the walks over a bundle ask.
+pub mod Walked

@@ -1,0 +1,2 @@
+-- The laws that the proofs of derivation cite.
+pub mod Growths

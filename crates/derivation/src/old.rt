@@ -1,0 +1,83 @@
+// An old roll beside this keeper's roll: the same labels, and rows that the listed digests lead on from.
+use crate::growth;
+use octets::is_same;
+use rows::DIGEST;
+use rows::Found;
+use rows::find;
+use rows::height_at;
+use rows::label_at;
+use rows::tail_at;
+ghost use mathlib.Core.Path.{_≡_};
+ghost use mathlib.Core.Bool.{not, _&&_};
+ghost use Prim.Native.Nat.{ℕ, _+_, _/_, _≤_, _<_};
+ghost use lib.ListN.{length};
+ghost use lib.Dec.{eqb};
+ghost use Rattle.octets.specs.Strings.{same};
+ghost use Rattle.rows.specs.Sizes.{most-rows, table-bytes};
+ghost use Rattle.rows.specs.Row.{label-of, tail-of, height-of};
+ghost use Rattle.rows.specs.Search as search;
+ghost use Rattle.roll.specs.Roll.{Roll};
+ghost use Rattle.statement.specs.Kinds.{digest-bytes};
+ghost use Rattle.rules.specs.Rows.{is-absent};
+ghost use Rattle.rules.specs.Derivation.{no-more, grown, row-derived};
+
+// Whether a roll has the label of row i of another table.
+fn has_label_of(rows: &[u8], count: usize, other: &[u8], i: usize) -> bool
+    requires { ⌜ (i < most-rows) × (length (now other) ≡ table-bytes) ⌝ }
+    ensures { λ r. ⌜ r ≡ not (is-absent (search.find count (now (rows .entry)) (label-of (now (other .entry)) i))) ⌝ }
+{
+    let Found::Absent = find(rows, count, label_at(other, i)) else {
+        return true;
+    };
+    false
+}
+
+// Whether each label of the old roll is one of ours.
+pub fn no_more(ours: &[u8], count: usize, old: &[u8], size: usize) -> bool
+    requires { ⌜ (size ≤ most-rows) × (length (now old) ≡ table-bytes) ⌝ }
+    ensures { λ r. ⌜ r ≡ no-more (record { count = count; rows = now (ours .entry) }) (record { count = size; rows = now (old .entry) }) ⌝ }
+{
+    let mut q = 0;
+    while q < size {
+        if !has_label_of(ours, count, old, q) {
+            return false;
+        }
+        q += 1;
+    }
+    true
+}
+
+// Whether a height is another one and so many more.
+fn is_higher_by(before: u64, n: u64, after: u64) -> bool
+    ensures { λ r. ⌜ r ≡ eqb (before + n) after ⌝ }
+{
+    if after < before {
+        return false;
+    }
+    after - before == n
+}
+
+// Whether the digests of a string lead from row q of the old roll to row r of ours.
+fn is_grown(ours: &[u8], r: usize, old: &[u8], q: usize, s: &[u8]) -> bool
+    requires { ⌜ (r < most-rows) × (q < most-rows) × (length (now ours) ≡ table-bytes) × (length (now old) ≡ table-bytes) ⌝ }
+    ensures { λ b. ⌜ b ≡ (eqb (height-of (now (old .entry)) q + length (now (s .entry)) / digest-bytes) (height-of (now (ours .entry)) r) && same (grown (tail-of (now (old .entry)) q) (now (s .entry)) (length (now (s .entry)) / digest-bytes)) (tail-of (now (ours .entry)) r)) ⌝ }
+{
+    let n = (s.len() / DIGEST) as u64;
+    if !is_higher_by(height_at(old, q), n, height_at(ours, r)) {
+        return false;
+    }
+    let tail = growth::grown(tail_at(old, q), s);
+    is_same(&tail, &tail_at(ours, r))
+}
+
+// Whether the old roll has the label of row r of ours, and the digests of a string lead from its row to ours.
+pub fn row_derived(ours: &[u8], r: usize, old: &[u8], size: usize, s: &[u8]) -> bool
+    requires { ⌜ (r < most-rows) × (length (now ours) ≡ table-bytes) × (length (now old) ≡ table-bytes) ⌝ }
+    ensures { λ b. ⌜ ((n : ℕ) → b ≡ row-derived (record { count = n; rows = now (ours .entry) }) (record { count = size; rows = now (old .entry) }) r (now (s .entry)) (length (now (s .entry)) / digest-bytes)) ⌝ }
+{
+    let found = find(old, size, label_at(ours, r));
+    match found {
+        Found::At(q) => is_grown(ours, r, old, q, s),
+        Found::Absent => false,
+    }
+}

@@ -1,0 +1,77 @@
+-- What the functions behind Activate and Bytes to check are asked for, and what they may count on.
+use mathlib.Core.Path.{_≡_}
+use mathlib.Core.Bool.{Bool, true, not, cond}
+use mathlib.Core.List.{List, [], _∷_}
+use Prim.Native.Nat.{ℕ, _*_, _≤_}
+use lib.ListN.{length}
+use lib.Dec.{eqb}
+use Rattle.refusals.specs.{rack-broken, digest-differs}
+use Rattle.refusals.specs.Order.{Test, _⇒_}
+use Rattle.octets.specs.Layouts.{holds}
+use Rattle.rack.specs.Racks.{rack-layout}
+use Rattle.rows.specs.Sizes.{most-rows}
+use Rattle.rows.specs.Table.{each, rows-fit}
+use Rattle.rows.specs.Digests.{roll-digest}
+use Rattle.roll.specs.Roll.{Roll, roll-layout}
+use Rattle.statement.specs.declared.Kind.{Kind}
+use Rattle.statement.specs.declared.Kind.the-variants.{Finalise, Initialise}
+use Rattle.statement.specs.declared.Statement.{Statement}
+use Rattle.statement.specs.Cut.{no-digest, no-label}
+use Rattle.rules.specs.declared.Head.{Head}
+use Rattle.rules.specs.Bundle.{longest-bundle, old-count, old-roll, list-at, list-of, added, digests, bundle-fits}
+use Rattle.rules.specs.Derivation.{some, row-derived, roll-of}
+use Rattle.rules.specs.Activate.{rack-size, racks-differ}
+use Rattle.rules.specs.Check.{old-list}
+
+-- "6 (previous, then own), 21"
+unfoldable pub rack-tests : Head → List ℕ → List ℕ → List Test
+rack-tests h previous own =
+    (not (holds rack-layout previous) ⇒ rack-broken)
+    ∷ (not (holds rack-layout own) ⇒ rack-broken)
+    ∷ (racks-differ h previous own ⇒ digest-differs)
+    ∷ []
+
+-- the blocks of old entry i are a roll
+abbrev pub roll-held : List ℕ → ℕ → Bool
+roll-held s i = holds roll-layout (old-roll s i)
+
+-- the parts of a string lie within it, for a roll of so many rows
+pub record Laid (rows : ℕ) (s : List ℕ) : Type 0 where
+  pub few : rows ≤ most-rows
+  pub ends : list-at s (rows * old-count s) ≤ length s
+  pub short : length s ≤ longest-bundle
+
+-- what a keeper has been shown where nothing of that refuses
+pub record Shown (head : Head) (table previous own s : List ℕ) : Type 0 where
+  pub rows : rows-fit (head .count) table ≡ true
+  pub before : holds rack-layout previous ≡ true
+  pub mine : holds rack-layout own ≡ true
+  pub fits : bundle-fits (rack-size previous) (rack-size own) (head .count) s ≡ true
+  pub rolls : each (roll-held s) (old-count s) ≡ true
+
+-- row r of ours is derived from an old roll by what old entry i lists
+abbrev pub led : Roll → Roll → List ℕ → ℕ → ℕ → Bool
+led ours old s i r = row-derived ours old r (digests s (list-of (ours .count) i r)) (added s (list-of (ours .count) i r))
+
+-- some old entry lists no digests for row r, of so many rows
+abbrev pub none-added : List ℕ → ℕ → ℕ → ℕ → Bool
+none-added s rows r i = eqb (added s (list-of rows i r)) 0
+
+abbrev pub kept : List ℕ → ℕ → ℕ → Bool
+kept s rows r = some (none-added s rows r) (old-count s)
+
+-- a finalise or initialise statement
+abbrev pub handover-statement : Kind → List ℕ → List ℕ → List ℕ → List ℕ → Statement
+handover-statement kind identity own other roll =
+    record { kind = kind; identity = identity; own = own; label = no-label; tail = no-digest; other = other; roll = roll }
+
+-- the digest of the roll of old entry i
+abbrev pub old-digest : List ℕ → ℕ → List ℕ
+old-digest s i = roll-digest (roll-of s i .count) (roll-of s i .rows)
+
+-- the statement that the marks of entry i of a list speak of
+abbrev pub spoken : Head → List ℕ → List ℕ → ℕ → ℕ → Statement
+spoken h table s list i =
+    cond (eqb list old-list)
+    (handover-statement Finalise (h .identity) (h .previous) (h .own) (old-digest s i))
+    (handover-statement Initialise (h .identity) (h .own) (h .previous) (roll-digest (h .count) table))

@@ -1,0 +1,86 @@
+// Activate.
+use crate::asking::unbundled;
+use crate::descent::derived;
+use bundle::new_count;
+use bundle::old_count;
+use bundle::unmarked_new;
+use bundle::unmarked_old;
+use rack::majority;
+use record::ACTIVE;
+use record::acceptance;
+use record::refusal;
+use rules::Head;
+use rules::Told;
+ghost use mathlib.Core.Path.{_≡_};
+ghost use mathlib.Core.Bool.{_||_};
+ghost use mathlib.Core.List.{[], _++_};
+ghost use lib.Dec.{ltb};
+ghost use Rattle.refusals.specs.Order.{first};
+ghost use Rattle.rack.specs.Racks as racks;
+ghost use Rattle.rules.specs.Bundle.{old-count, new-count};
+ghost use Rattle.rules.specs.Outcomes.{Lent, outcome};
+ghost use Rattle.rules.specs.Activate.{rack-size, bundle-tests, handover-tests, acting, activating};
+ghost use Rattle.handover.specs.Asked.{Shown};
+
+// Whether a list has fewer entries than a majority of its rack.
+fn are_too_few(head: Head, table: &[u8], previous: &[u8], own: &[u8], s: &[u8]) -> bool
+    requires { ⌜ Shown head (now table) (now previous) (now own) (now s) ⌝ }
+    ensures { λ r. ⌜ r ≡ (ltb (old-count (now (s .entry))) (racks.majority (rack-size (now (previous .entry)))) || ltb (new-count (now (s .entry))) (racks.majority (rack-size (now (own .entry))))) ⌝ }
+{
+    if old_count(s) < majority(previous[0]) as usize {
+        return true;
+    }
+    new_count(s) < majority(own[0]) as usize
+}
+
+// The first refusal of what a bundle shows, or 0.
+fn unhanded(head: Head, table: &[u8], previous: &[u8], own: &[u8], s: &[u8]) -> u32
+    requires { ⌜ Shown head (now table) (now previous) (now own) (now s) ⌝ }
+    ensures { λ r. ⌜ r ≡ first (handover-tests (record { head = head; table = now (table .entry); area = [] }) (now (previous .entry)) (now (own .entry)) (now (s .entry))) ⌝ }
+{
+    if are_too_few(head, table, previous, own, s) {
+        return refusals::TOO_FEW;
+    }
+    let old = unmarked_old(s, refusals::SIGNATURE_NOT_VALID);
+    if old != refusals::ACCEPTED {
+        return old;
+    }
+    let new = unmarked_new(s, refusals::INITIALISE_NOT_VALID);
+    if new != refusals::ACCEPTED {
+        return new;
+    }
+    if !derived(table, head.count as usize, s) {
+        return refusals::NOT_DERIVED;
+    }
+    refusals::ACCEPTED
+}
+
+// The first refusal, or 0.
+fn refusal_of_activate(head: Head, table: &[u8], previous: &[u8], own: &[u8], s: &[u8]) -> u32
+    ensures { λ r. ⌜ r ≡ first (bundle-tests 0 (record { head = head; table = now (table .entry); area = [] }) (now (previous .entry)) (now (own .entry)) (now (s .entry)) ++ handover-tests (record { head = head; table = now (table .entry); area = [] }) (now (previous .entry)) (now (own .entry)) (now (s .entry))) ⌝ }
+{
+    let n = unbundled(head, table, &s[..0], 0, previous, own, s);
+    if n != refusals::ACCEPTED {
+        return n;
+    }
+    unhanded(head, table, previous, own, s)
+}
+
+fn acting(head: Head) -> Head
+    ensures { λ r. ⌜ r ≡ acting head ⌝ }
+{
+    let mut next = head;
+    next.status = ACTIVE;
+    next
+}
+
+// A prepared keeper becomes active: majorities of both racks stand behind its roll.
+pub fn activate(head: Head, table: &[u8], previous: &[u8], own: &[u8], s: &[u8]) -> Told
+    ensures { λ r. ⌜ outcome r (now (table .entry)) [] ≡ activating (record { head = head; table = now (table .entry); area = [] }) (now (previous .entry)) (now (own .entry)) (now (s .entry)) ⌝ }
+{
+    let n = refusal_of_activate(head, table, previous, own, s);
+    if n != refusals::ACCEPTED {
+        return refusal(n, 0, head);
+    }
+    acceptance(0, acting(head))
+}

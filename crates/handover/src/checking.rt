@@ -1,0 +1,142 @@
+// Bytes to check.
+use crate::asking::unbundled;
+use bundle::new_count;
+use bundle::old_count;
+use bundle::old_roll;
+use record::acceptance;
+use record::give;
+use record::refusal;
+use roll::read_roll;
+use rows::DIGEST;
+use rows::TABLE;
+use rows::roll_digest;
+use rules::Head;
+use rules::Told;
+use statement::HANDOVER_SIZE;
+use statement::Kind;
+use statement::LABEL;
+use statement::Statement;
+ghost use mathlib.Core.Path.{_≡_};
+ghost use mathlib.Core.Bool.{true, not};
+ghost use mathlib.Core.List.{[], _∷_, _++_};
+ghost use Prim.Native.Nat.{_<_};
+ghost use lib.Dec.{ltb};
+ghost use Rattle.refusals.specs.{list-broken};
+ghost use Rattle.refusals.specs.Order.{_⇒_, first};
+ghost use Rattle.statement.specs.Kinds.{handover-size};
+ghost use Rattle.rules.specs.Bundle.{old-count};
+ghost use Rattle.rules.specs.Outcomes.{Lent, outcome};
+ghost use Rattle.rules.specs.Activate.{bundle-tests};
+ghost use Rattle.rules.specs.Check.{entries-of, checking};
+ghost use Rattle.handover.specs.Asked.{Laid, Shown, roll-held, handover-statement, old-digest, spoken};
+
+// The lists by their numbers.
+const OLD: u8 = 0;
+
+const NEW: u8 = 1;
+
+// How many entries a list has; there is no third list.
+fn entries_of(rows: usize, s: &[u8], list: u8) -> usize
+    requires { ⌜ Laid rows (now s) ⌝ }
+    ensures { λ r. ⌜ r ≡ entries-of (now (s .entry)) list ⌝ }
+{
+    if list == OLD {
+        return old_count(s);
+    }
+    if list == NEW {
+        return new_count(s);
+    }
+    0
+}
+
+// The first refusal, or 0.
+fn refusal_of_check(
+    head: Head,
+    table: &[u8],
+    area: &[u8],
+    previous: &[u8],
+    own: &[u8],
+    s: &[u8],
+    list: u8,
+    entry: u64,
+) -> u32
+    ensures { λ r. ⌜ r ≡ first (bundle-tests handover-size (record { head = head; table = now (table .entry); area = now (area .entry) }) (now (previous .entry)) (now (own .entry)) (now (s .entry)) ++ (not (ltb entry (entries-of (now (s .entry)) list)) ⇒ list-broken) ∷ []) ⌝ }
+{
+    let n = unbundled(head, table, area, HANDOVER_SIZE, previous, own, s);
+    if n != refusals::ACCEPTED {
+        return n;
+    }
+    if entry < entries_of(head.count as usize, s, list) as u64 {
+        return refusals::ACCEPTED;
+    }
+    refusals::LIST_BROKEN
+}
+
+// The digest of the roll of old entry i.
+fn old_digest(rows: usize, s: &[u8], i: usize) -> [u8; DIGEST]
+    requires { ⌜ Laid rows (now s) × (i < old-count (now s)) × (roll-held (now s) i ≡ true) ⌝ }
+    ensures { λ r. ⌜ r ≡ old-digest (now (s .entry)) i ⌝ }
+{
+    let mut old = [0u8; TABLE];
+    let read = read_roll(old_roll(s, i), &mut old);
+    roll_digest(read.count as usize, &old)
+}
+
+fn handover_statement(
+    kind: Kind,
+    identity: [u8; DIGEST],
+    own: [u8; DIGEST],
+    other: [u8; DIGEST],
+    roll: [u8; DIGEST],
+) -> Statement
+    ensures { λ r. ⌜ r ≡ handover-statement kind identity own other roll ⌝ }
+{
+    let label = [0u8; LABEL];
+    let tail = [0u8; DIGEST];
+    Statement {
+        kind,
+        identity,
+        own,
+        label,
+        tail,
+        other,
+        roll,
+    }
+}
+
+// The statement that the marks of an entry speak of: the old keeper's last words, or this keeper's first.
+fn spoken(head: Head, table: &[u8], s: &[u8], list: u8, i: usize) -> Statement
+    requires { ⌜ Laid (head .count) (now s) × (list ≡ 0 → i < old-count (now s)) × (list ≡ 0 → roll-held (now s) i ≡ true) ⌝ }
+    ensures { λ r. ⌜ r ≡ spoken head (now (table .entry)) (now (s .entry)) list i ⌝ }
+{
+    let identity = head.identity;
+    let own = head.own;
+    let previous = head.previous;
+    if list == OLD {
+        let roll = old_digest(head.count as usize, s, i);
+        return handover_statement(Kind::Finalise, identity, previous, own, roll);
+    }
+    let roll = roll_digest(head.count as usize, table);
+    handover_statement(Kind::Initialise, identity, own, previous, roll)
+}
+
+// The statement that the marks of an entry of a list speak of.
+pub fn bytes_to_check(
+    head: Head,
+    table: &[u8],
+    previous: &[u8],
+    own: &[u8],
+    s: &[u8],
+    list: u8,
+    entry: u64,
+    area: &mut [u8],
+) -> Told
+    ensures { λ r. ⌜ outcome r (now (table .entry)) (now (area .exit)) ≡ checking (record { head = head; table = now (table .entry); area = now (area .entry) }) (now (previous .entry)) (now (own .entry)) (now (s .entry)) list entry ⌝ }
+{
+    let n = refusal_of_check(head, table, area, previous, own, s, list, entry);
+    if n != refusals::ACCEPTED {
+        return refusal(n, 0, head);
+    }
+    give(spoken(head, table, s, list, entry as usize), area);
+    acceptance(HANDOVER_SIZE, head)
+}

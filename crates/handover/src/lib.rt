@@ -1,0 +1,11 @@
+// Taking over from an earlier rack: Activate, and the bytes that the marks of its bundle speak of.
+mod activating;
+mod asking;
+mod checking;
+mod descent;
+mod keeping;
+mod racks;
+mod reading;
+
+pub use activating::activate;
+pub use checking::bytes_to_check;
