@@ -18,4 +18,6 @@ fn main() {
     finals::twice();
     desks::signers();
     handovers::roll_alone();
+    handovers::lacking();
+    handovers::empty();
 }

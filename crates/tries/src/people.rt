@@ -1,4 +1,4 @@
-// The keys, racks, labels and entries of the cases, each made of one number.
+// The keys, racks and labels of the cases.
 
 pub const KEY: usize = 32;
 
