@@ -1,0 +1,73 @@
+// Keepers: woken, founded, with ledgers, and appending.
+use crate::people::key;
+use crate::people::label;
+use rows::TABLE;
+use rules::Answer;
+use rules::Head;
+use rules::Told;
+use statement::HANDOVER_SIZE;
+use statement::RECEIPT_SIZE;
+
+fn nobody() -> Head {
+    let zeros = [0u8; 32];
+    Head {
+        status: 0,
+        count: 0,
+        key: zeros,
+        identity: zeros,
+        own: zeros,
+        previous: zeros,
+        next: zeros,
+    }
+}
+
+// The keeper of key n, blank.
+pub fn woken(table: &mut [u8; TABLE], n: u8) -> Head {
+    let told = record::wake(nobody(), table, key(n));
+    told.head
+}
+
+// The keeper of key 1, once it has founded its rack.
+pub fn founded(table: &mut [u8; TABLE], rack: &[u8]) -> Head {
+    let head = woken(table, 1);
+    let mut area = [0u8; HANDOVER_SIZE];
+    let told = entering::initialise(
+        head,
+        table,
+        [0u8; 32],
+        &rack[..0],
+        &rack[..0],
+        rack,
+        &mut area,
+    );
+    told.head
+}
+
+// The keeper makes ledger n.
+pub fn make(head: Head, table: &mut [u8; TABLE], n: u8) -> Told {
+    let mut area = [0u8; RECEIPT_SIZE];
+    ledgers::new(head, table, label(n), &mut area)
+}
+
+// The keeper once it has made ledgers with the labels 1, 2 and so on.
+pub fn with_ledgers(head: Head, table: &mut [u8; TABLE], count: u8) -> Head {
+    let mut keeper = head;
+    let mut n: u8 = 0;
+    while n < count {
+        n += 1;
+        let told = make(keeper, table, n);
+        keeper = told.head;
+    }
+    keeper
+}
+
+// The keeper appends key 1 to ledger 1, as if it were an entry's digest.
+pub fn enter(
+    head: Head,
+    table: &mut [u8; TABLE],
+    expected: u64,
+    receipt: &mut [u8; RECEIPT_SIZE],
+) -> Answer {
+    let told = ledgers::append(head, table, label(1), key(1), expected, receipt);
+    told.answer
+}

@@ -1,0 +1,23 @@
+// Makes the calls of document 01's "Numbers to try", and says of each case what they answered.
+mod desks;
+mod finals;
+mod growth;
+mod handovers;
+mod keepers;
+mod layouts;
+mod people;
+mod say;
+
+fn main() {
+    layouts::majorities();
+    layouts::blocks();
+    layouts::racks();
+    growth::on_blank();
+    growth::made_again();
+    growth::heights();
+    finals::twice();
+    desks::signers();
+    handovers::roll_alone();
+    handovers::lacking();
+    handovers::empty();
+}
