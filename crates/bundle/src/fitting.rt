@@ -9,7 +9,7 @@ use crate::walks::next_list;
 use crate::walks::next_old;
 use crate::walks::old_count;
 ghost use mathlib.Core.Path.{_≡_};
-ghost use Prim.Native.Nat.{_≤_, _<_};
+ghost use Prim.Native.Nat.{_*_, _≤_, _<_};
 ghost use lib.ListN.{length};
 ghost use Rattle.rows.specs.Sizes.{most-rows};
 ghost use Rattle.rules.specs.Bundle.{longest-bundle, new-at, list-at, bundle-fits};
@@ -17,7 +17,7 @@ ghost use Rattle.bundle.specs.Walked.{old-asked, olds-end, news-end, lis
 
 // Whether an old entry may stand at a place, where `low` is the lowest position that comes after the entries before it.
 fn old_entry_fits(s: &[u8], at: usize, n: usize, low: usize) -> bool
-    requires { ⌜ at ≤ 70000 ⌝ }
+    requires { ⌜ at ≤ 2 * longest-bundle ⌝ }
     ensures { λ r. ⌜ r ≡ old-asked (now (s .entry)) n low at ⌝ }
 {
     if s.len() <= at + 2 {
@@ -66,7 +66,7 @@ fn new_entries_fit(s: &[u8], m: usize) -> bool
 
 // Whether a list of entry digests may stand at a place.
 fn list_fits(s: &[u8], at: usize) -> bool
-    requires { ⌜ at ≤ 70000 ⌝ }
+    requires { ⌜ at ≤ 2 * longest-bundle ⌝ }
     ensures { λ r. ⌜ r ≡ list-asked (now (s .entry)) at ⌝ }
 {
     if s.len() <= at + 1 {

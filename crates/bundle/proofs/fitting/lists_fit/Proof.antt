@@ -2,14 +2,14 @@
 -- Assumes nothing.
 use mathlib.Core.Path.{_≡_, refl, sym, ap, _∙_}
 use mathlib.Core.Bool.{true}
-use Prim.Native.Nat.{ℕ, _≤_, _-_}
+use Prim.Native.Nat.{ℕ, _≤_, _-_, _*_}
 use borrow.Author.Tests.{not-true, not-false}
 use denote.Ref.{now}
 use lib.ListN.{length}
 use lib.Dec.{eqb}
 use Rattle.rows.specs.Table.{each}
 use Rattle.rows.proofs.Tables.{each-next}
-use Rattle.rules.specs.Bundle.{list-at, added-fits}
+use Rattle.rules.specs.Bundle.{longest-bundle, list-at, added-fits}
 use Rattle.bundle.proofs.Places.{list-step, new-before-lists}
 use Rattle.bundle.proofs.Deciding.{list-fails, list-kept}
 use native.Mathlib.Omega.{arith}
@@ -17,7 +17,7 @@ use Rattle.bundle.proofs.fitting.lists_fit.Statement.{statement}
 use Rattle.bundle.proofs.fitting.lists_fit.Tie as tie
 
 abbrev Inv-loop : tie.InvT-loop
-Inv-loop s count at₀ j₀ at j = (j ≤ count) × (at ≡ list-at s j) × (at ≤ 70000) × (each (added-fits s) j ≡ true)
+Inv-loop s count at₀ j₀ at j = (j ≤ count) × (at ≡ list-at s j) × (at ≤ 2 * longest-bundle) × (each (added-fits s) j ≡ true)
 
 abbrev μ-loop : tie.MeasureT-loop
 μ-loop s count at₀ j₀ at j = count - j

@@ -2,7 +2,7 @@
 -- position that comes next, and the entries passed fit. Assumes nothing.
 use mathlib.Core.Path.{_≡_, refl, sym, ap, _∙_}
 use mathlib.Core.Bool.{true}
-use Prim.Native.Nat.{ℕ, _≤_, _+_, _-_}
+use Prim.Native.Nat.{ℕ, _≤_, _+_, _-_, _*_}
 use borrow.Author.Tests.{not-true, not-false}
 use denote.Ref.{now}
 use lib.ListN.{length}
@@ -11,7 +11,7 @@ use Rattle.marks.specs.Entries.{entries-fit}
 use Rattle.marks.proofs.Listed.{lowest, lowest-next, one-more}
 use Rattle.rows.specs.Table.{each}
 use Rattle.rows.proofs.Tables.{each-next}
-use Rattle.rules.specs.Bundle.{byte, old-count, old-at, old-position, old-marks, blocks-fit, new-at}
+use Rattle.rules.specs.Bundle.{longest-bundle, byte, old-count, old-at, old-position, old-marks, blocks-fit, new-at}
 use Rattle.bundle.proofs.Places.{old-step}
 use Rattle.bundle.proofs.Deciding.{old-fails, old-kept}
 use native.Mathlib.Omega.{arith}
@@ -20,7 +20,7 @@ use Rattle.bundle.proofs.fitting.old_entries_fit.Tie as tie
 
 abbrev Inv-loop : tie.InvT-loop
 Inv-loop s n count low₀ at₀ i₀ low at i =
-    (i ≤ count) × (at ≡ old-at s i) × (low ≡ lowest (old-position s) i) × (at ≤ 70000)
+    (i ≤ count) × (at ≡ old-at s i) × (low ≡ lowest (old-position s) i) × (at ≤ 2 * longest-bundle)
     × (entries-fit n (old-position s) (old-marks s) i ≡ true) × (each (blocks-fit s) i ≡ true)
 
 abbrev μ-loop : tie.MeasureT-loop

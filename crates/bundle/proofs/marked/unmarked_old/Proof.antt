@@ -1,7 +1,7 @@
 -- `bundle::marked::unmarked_old` meets its contract. The loop's invariant: `at` is where old entry `i` begins, and no entry passed is refused; one that is decides.
 -- Assumes nothing.
 use mathlib.Core.Path.{_≡_, refl, sym, ap, _∙_}
-use Prim.Native.Nat.{ℕ, _≤_, _+_, _-_}
+use Prim.Native.Nat.{ℕ, _≤_, _<_, _+_, _-_}
 use denote.Ref.{now}
 use Rattle.refusals.specs.{accepted}
 use Rattle.refusals.specs.Order.{first}
@@ -43,15 +43,16 @@ returns c =
     let a = c .before .before .before .before .before .before .before .args in
     let l = c .before .before .before .before .loop in
     let s = now (a .s) in
-    refused-at (a .number) (c .before .before .before .before .before .before .before .pre .0) (old-marks s) (old-count s) (l .i) (c .before .mark-refusal .result)
-    (omega (arith, c .before .before .before .before .before .old-count .ensures)) (l .inv .2)
+    let h : l .i < old-count s = omega (arith, c .before .before .before .before .before .old-count .ensures) in
+    refused-at (a .number) (c .before .before .before .before .before .before .before .pre .0) (old-marks s) (old-count s) (l .i) (c .before .mark-refusal .result) h (l .inv .2)
     (c .before .mark-refusal .ensures ∙ ap (λ (x : ℕ). first (mark-tests (a .number) (byte s (x + 1)))) (l .inv .1))
     (c .if1 .taken)
 
 next-old-requires : tie.Need-next-old-requires Inv-loop μ-loop
 next-old-requires c κs =
-    let s = now (c .before .before .before .before .before .before .before .args .s) in
-    (omega (arith, old-before-new s (c .before .before .before .before .loop .i) (omega (arith, c .before .before .before .before .before .old-count .ensures))), c .before .before .before .before .before .before .before .pre .2)
+    let start = c .before .before .before .before .before .before .before in
+    let within = old-before-new (now (start .args .s)) (c .before .before .before .before .loop .i) (omega (arith, c .before .before .before .before .before .old-count .ensures)) in
+    (omega (arith, within), start .pre .2)
 
 add-i : tie.Need-add-i Inv-loop μ-loop
 add-i c = omega arith

@@ -24,7 +24,9 @@ cast-low : tie.Need-cast-low
 cast-low c = omega (arith, c .shared-slice-known2 .given (c .before .before .args .at + 1))
 
 mul-result : tie.Need-mul-result
-mul-result c = omega (arith, c .shared-slice-known2 .given (c .before .before .args .at))
+mul-result c =
+    let at = c .before .before .args .at in
+    omega (arith, c .shared-slice-known2 .given at, c .shared-slice-known2 .given (at + 1))
 
 add-result : tie.Need-add-result
 add-result c =

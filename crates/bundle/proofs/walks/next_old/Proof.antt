@@ -24,7 +24,7 @@ add-result-2 : tie.Need-add-result-2
 add-result-2 c = omega (arith, c .shared-slice-known .given (c .before .args .at + 2))
 
 returns : tie.Need-returns
-returns c = search needs
+returns c = omega arith
 
 pub next-old-spec : {M : Type 1} → statement M
 next-old-spec =
