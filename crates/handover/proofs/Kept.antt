@@ -12,6 +12,7 @@ use Rattle.octets.specs.Strings.{same}
 use Rattle.octets.proofs.RoundTrips.{and-left, and-right}
 use Rattle.rows.specs.Row.{tail-of, height-of}
 use Rattle.rows.specs.Table.{each}
+use Rattle.rows.proofs.Tables.{each-gives}
 use Rattle.roll.specs.Roll.{Roll}
 use Rattle.rules.specs.Rows.{is-absent, row-number}
 use Rattle.rules.specs.Bundle.{old-count, added, list-of, digests}
@@ -36,16 +37,6 @@ module _ (test : ℕ → Bool) where
       go : (i < n → some test n ≡ true) → Dec (i < n) → (some test n || test n) ≡ true
       go earlier (yes l) = rw (earlier l)
       go earlier (no g) = let e : i ≡ n = omega arith in or-true (some test n) (rw e at k)
-
-  -- what holds of each holds of one of them
-  pub each-gives : (n i : ℕ) → i < n → each test n ≡ true → test i ≡ true
-  unfolding each
-  each-gives zero i h e = absurd (not-suc-le-zero h)
-  each-gives (suc n) i h e = go (λ l. each-gives n i l (and-left (each test n) (test n) e)) (decLt i n)
-    where
-      go : (i < n → test i ≡ true) → Dec (i < n) → test i ≡ true
-      go earlier (yes l) = earlier l
-      go earlier (no g) = let q : n ≡ i = omega arith in rw q at (and-right (each test n) (test n) e)
 
 -- two tests that agree on all numbers below n
 module _ (f g : ℕ → Bool) where

@@ -36,6 +36,16 @@ module _ (test : ℕ → Bool) where
       go earlier (yes l) = rw (earlier l)
       go earlier (no g) = let e : i ≡ n = omega arith in and-false (each test n) (rw e at k)
 
+  -- what holds of each holds of one of them
+  pub each-gives : (n i : ℕ) → i < n → each test n ≡ true → test i ≡ true
+  unfolding each
+  each-gives zero i h e = absurd (not-suc-le-zero h)
+  each-gives (suc n) i h e = go (λ l. each-gives n i l (and-left (each test n) (test n) e)) (decLt i n)
+    where
+      go : (i < n → test i ≡ true) → Dec (i < n) → test i ≡ true
+      go earlier (yes l) = earlier l
+      go earlier (no g) = let q : n ≡ i = omega arith in rw q at (and-right (each test n) (test n) e)
+
 pub rises-after : (rows : List ℕ) (i : ℕ) → (i ≡ 0 → ⊥) → before (label-of rows (i - 1)) (label-of rows i) ≡ rises rows i
 unfolding rises
 rises-after rows zero n = absurd (n refl)
