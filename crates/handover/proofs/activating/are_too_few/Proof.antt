@@ -29,7 +29,8 @@ returns : tie.Need-returns
 unfolding rack-cut
 returns c =
     let a = c .before .before .before .before .before .before .before .args in
-    let less : old-count (now (a .s)) < majority (rack-size (now (a .previous))) = omega (arith, c .if1 .taken, c .before .before .before .old-count .ensures, c .before .majority .ensures) in
+    let less : old-count (now (a .s)) < majority (rack-size (now (a .previous))) =
+    omega (arith, c .if1 .taken, c .before .before .before .old-count .ensures, c .before .majority .ensures) in
     rw (lt-ltb (old-count (now (a .s))) (majority (rack-size (now (a .previous)))) less)
 
 new-count-requires : tie.Need-new-count-requires
@@ -48,7 +49,8 @@ returns-2 : tie.Need-returns-2
 unfolding rack-cut
 returns-2 c =
     let a = c .before .before .before .before .before .before .before .before .before .before .args in
-    let many : majority (rack-size (now (a .previous))) ≤ old-count (now (a .s)) = omega (arith, c .before .before .before .if1 .left, c .before .before .before .before .before .before .old-count .ensures, c .before .before .before .before .majority .ensures) in
+    let many : majority (rack-size (now (a .previous))) ≤ old-count (now (a .s)) =
+    omega (arith, c .before .before .before .if1 .left, c .before .before .before .before .before .before .old-count .ensures, c .before .before .before .before .majority .ensures) in
     rw (le-ltb (old-count (now (a .s))) (majority (rack-size (now (a .previous)))) many) (ap₂ ltb (c .before .before .new-count .ensures) (c .majority2 .ensures))
 
 pub are-too-few-spec : {M : Type 1} → statement M

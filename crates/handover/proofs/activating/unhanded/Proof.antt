@@ -15,8 +15,11 @@ use Rattle.handover.proofs.Places.{list-begins, new-lies}
 use Rattle.handover.proofs.activating.unhanded.Statement.{statement}
 use Rattle.handover.proofs.activating.unhanded.Tie as tie
 
+abbrev start : tie.Else1 → tie.Start
+start c = c .before .before .before .before .before .before
+
 -- neither list has too few
-many : (c : tie.Else1) → few (now (c .before .before .before .before .before .before .args .previous)) (now (c .before .before .before .before .before .before .args .own)) (now (c .before .before .before .before .before .before .args .s)) ≡ false
+many : (c : tie.Else1) → few (now (start c .args .previous)) (now (start c .args .own)) (now (start c .args .s)) ≡ false
 many c = sym (c .before .are-too-few .ensures) ∙ c .if1 .left
 
 are-too-few-requires : tie.Need-are-too-few-requires

@@ -18,26 +18,32 @@ use Rattle.handover.proofs.Cascades.{string-tests, unready-refuses, rac
 use Rattle.handover.proofs.asking.unbundled.Statement.{statement}
 use Rattle.handover.proofs.asking.unbundled.Tie as tie
 
+abbrev start : tie.Else2 → tie.Start
+start c = c .before .before .before .before .before .before .before .before .before
+
 -- both racks hold, and the string decides
-racks : (c : tie.Else2) → (holds rack-layout (now (c .before .before .before .before .before .before .before .before .before .args .previous)) ≡ true) × (holds rack-layout (now (c .before .before .before .before .before .before .before .before .before .args .own)) ≡ true)
+racks : (c : tie.Else2) → (holds rack-layout (now (start c .args .previous)) ≡ true) × (holds rack-layout (now (start c .args .own)) ≡ true)
 racks c =
-    let a = c .before .before .before .before .before .before .before .before .before .args in
+    let a = start c .args in
     racks-hold (a .head) (now (a .previous)) (now (a .own)) (sym (c .before .unracked .ensures) ∙ c .if2 .left)
 
 lent : tie.Else2 → Lent
-lent c = let a = c .before .before .before .before .before .before .before .before .before .args in record { head = a .head; table = now (a .table); area = now (a .area) }
+lent c = let a = start c .args in record { head = a .head; table = now (a .table); area = now (a .area) }
 
 decides :
     (c : tie.Else2)
-    → first (bundle-tests (c .before .before .before .before .before .before .before .before .before .args .size) (lent c) (now (c .before .before .before .before .before .before .before .before .before .args .previous)) (now (c .before .before .before .before .before .before .before .before .before .args .own)) (now (c .before .before .before .before .before .before .before .before .before .args .s)))
-    ≡ first (string-tests (c .before .before .before .before .before .before .before .before .before .args .size) (lent c) (now (c .before .before .before .before .before .before .before .before .before .args .previous)) (now (c .before .before .before .before .before .before .before .before .before .args .own)) (now (c .before .before .before .before .before .before .before .before .before .args .s)))
+    → first (bundle-tests (start c .args .size) (lent c) (now (start c .args .previous)) (now (start c .args .own)) (now (start c .args .s)))
+    ≡ first (string-tests (start c .args .size) (lent c) (now (start c .args .previous)) (now (start c .args .own)) (now (start c .args .s)))
 unfolding lent
 decides c =
     string-decides _ (lent c) _ _ _ (sym (c .before .before .before .unready .ensures) ∙ c .before .before .if1 .left) (sym (c .before .unracked .ensures) ∙ c .if2 .left)
 
+abbrev earlier : tie.Else3 → tie.Else2
+earlier c = c .before .before .before .before .before
+
 fits :
     (c : tie.Else3)
-    → bundle-fits (rack-size (now (c .before .before .before .before .before .before .before .before .before .before .before .before .before .before .args .previous))) (rack-size (now (c .before .before .before .before .before .before .before .before .before .before .before .before .before .before .args .own))) (c .before .before .before .before .before .before .before .before .before .before .before .before .before .before .args .head .count) (now (c .before .before .before .before .before .before .before .before .before .before .before .before .before .before .args .s)) ≡ true
+    → bundle-fits (rack-size (now (start (earlier c) .args .previous))) (rack-size (now (start (earlier c) .args .own))) (start (earlier c) .args .head .count) (now (start (earlier c) .args .s)) ≡ true
 unfolding rack-cut
 fits c = sym (c .before .is-bundle .ensures) ∙ not-false _ (c .if3 .left)
 

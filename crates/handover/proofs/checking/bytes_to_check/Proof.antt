@@ -78,7 +78,14 @@ returns-2 c =
     let long : length (statement-written (v .result)) ≡ handover-size = written-length (v .result) (arrays (v .result) _ (v .ok)) (fits-kind (v .result) fits) ∙ kind in
     let bytes : statement-written (v .result) ≡ spoken-of k (now (a .s)) (a .list) (a .entry) =
     ap statement-written (v .ensures) ∙ spoken-written k (now (a .s)) (a .list) (a .entry) in
-    rw (← (c .before .before .before .before .before .before .before .refusal-of-check .ensures), eq-eqb _ _ (c .before .before .before .before .before .before .if1 .left), ← bytes, long, c .acceptance .ensures, c .before .before .before .give .ensures)
+    rw (
+      ← (c .before .before .before .before .before .before .before .refusal-of-check .ensures),
+      eq-eqb _ _ (c .before .before .before .before .before .before .if1 .left),
+      ← bytes,
+      long,
+      c .acceptance .ensures,
+      c .before .before .before .give .ensures,
+    )
 
 pub bytes-to-check-spec : {M : Type 1} → statement M
 bytes-to-check-spec =

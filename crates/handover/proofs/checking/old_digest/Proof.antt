@@ -12,12 +12,17 @@ use Rattle.handover.proofs.Readings.{read-is, read-fits}
 use Rattle.handover.proofs.checking.old_digest.Statement.{statement}
 use Rattle.handover.proofs.checking.old_digest.Tie as tie
 
+abbrev start : tie.After-read-roll → tie.Start
+start c = c .before .before .before .before
+
 -- the roll that is read fits, and is that of the old entry
 fit : (c : tie.After-read-roll) → rows-fit (c .read-roll .result .count) (c .read-roll .last .1 .0) ≡ true
-fit c = read-fits _ (c .before .before .old-roll .ensures) (c .before .before .before .before .pre .2) (c .read-roll .ensures)
+fit c = read-fits _ (c .before .before .old-roll .ensures) (start c .pre .2) (c .read-roll .ensures)
 
-is : (c : tie.After-read-roll) → _≡_ {A = Roll} (record { count = c .read-roll .result .count; rows = c .read-roll .last .1 .0 }) (roll-of (now (c .before .before .before .before .args .s)) (c .before .before .before .before .args .i))
-is c = read-is _ (c .before .before .old-roll .ensures) (c .before .before .before .before .pre .2) (c .read-roll .ensures)
+is :
+    (c : tie.After-read-roll)
+    → _≡_ {A = Roll} (record { count = c .read-roll .result .count; rows = c .read-roll .last .1 .0 }) (roll-of (now (start c .args .s)) (start c .args .i))
+is c = read-is _ (c .before .before .old-roll .ensures) (start c .pre .2) (c .read-roll .ensures)
 
 old-roll-requires : tie.Need-old-roll-requires
 old-roll-requires c κs = search needs

@@ -38,16 +38,20 @@ unfolding first
 returns-2 c =
     let a = c .before .before .before .before .before .before .before .before .before .args in
     let k : Lent = record { head = a .head; table = now (a .table); area = now (a .area) } in
-    let t : ltb (a .entry) (entries-of (now (a .s)) (a .list)) ≡ true = lt-ltb (a .entry) (entries-of (now (a .s)) (a .list)) (omega (arith, c .if2 .taken, c .before .entries-of .ensures)) in
-    sym (bundle-passes handover-size k (now (a .previous)) (now (a .own)) (now (a .s)) (entry-test (now (a .s)) (a .list) (a .entry)) (sym (c .before .before .before .unbundled .ensures) ∙ c .before .before .if1 .left) ∙ rw t)
+    let t : ltb (a .entry) (entries-of (now (a .s)) (a .list)) ≡ true =
+    lt-ltb (a .entry) (entries-of (now (a .s)) (a .list)) (omega (arith, c .if2 .taken, c .before .entries-of .ensures)) in
+    sym (bundle-passes handover-size k (now (a .previous)) (now (a .own)) (now (a .s))
+    (entry-test (now (a .s)) (a .list) (a .entry)) (sym (c .before .before .before .unbundled .ensures) ∙ c .before .before .if1 .left) ∙ rw t)
 
 returns-3 : tie.Need-returns-3
 unfolding first
 returns-3 c =
     let a = c .before .before .before .before .before .before .before .before .before .args in
     let k : Lent = record { head = a .head; table = now (a .table); area = now (a .area) } in
-    let t : ltb (a .entry) (entries-of (now (a .s)) (a .list)) ≡ false = le-ltb (a .entry) (entries-of (now (a .s)) (a .list)) (omega (arith, c .if2 .left, c .before .entries-of .ensures)) in
-    sym (bundle-passes handover-size k (now (a .previous)) (now (a .own)) (now (a .s)) (entry-test (now (a .s)) (a .list) (a .entry)) (sym (c .before .before .before .unbundled .ensures) ∙ c .before .before .if1 .left) ∙ rw t)
+    let t : ltb (a .entry) (entries-of (now (a .s)) (a .list)) ≡ false =
+    le-ltb (a .entry) (entries-of (now (a .s)) (a .list)) (omega (arith, c .if2 .left, c .before .entries-of .ensures)) in
+    sym (bundle-passes handover-size k (now (a .previous)) (now (a .own)) (now (a .s))
+    (entry-test (now (a .s)) (a .list) (a .entry)) (sym (c .before .before .before .unbundled .ensures) ∙ c .before .before .if1 .left) ∙ rw t)
 
 pub refusal-of-check-spec : {M : Type 1} → statement M
 refusal-of-check-spec =

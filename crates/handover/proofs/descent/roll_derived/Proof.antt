@@ -13,12 +13,17 @@ use Rattle.handover.proofs.Readings.{read-is, read-fits}
 use Rattle.handover.proofs.descent.roll_derived.Statement.{statement}
 use Rattle.handover.proofs.descent.roll_derived.Tie as tie
 
+abbrev start : tie.After-read-roll → tie.Start
+start c = c .before .before .before .before .before
+
 -- the roll that is read fits, and is that of the old entry
 fit : (c : tie.After-read-roll) → rows-fit (c .read-roll .result .count) (c .read-roll .last .1 .0) ≡ true
-fit c = read-fits _ (c .before .before .old-roll .ensures) (c .before .before .before .before .before .pre .3) (c .read-roll .ensures)
+fit c = read-fits _ (c .before .before .old-roll .ensures) (start c .pre .3) (c .read-roll .ensures)
 
-is : (c : tie.After-read-roll) → _≡_ {A = Roll} (record { count = c .read-roll .result .count; rows = c .read-roll .last .1 .0 }) (roll-of (now (c .before .before .before .before .before .args .s)) (c .before .before .before .before .before .args .i))
-is c = read-is _ (c .before .before .old-roll .ensures) (c .before .before .before .before .before .pre .3) (c .read-roll .ensures)
+is :
+    (c : tie.After-read-roll)
+    → _≡_ {A = Roll} (record { count = c .read-roll .result .count; rows = c .read-roll .last .1 .0 }) (roll-of (now (start c .args .s)) (start c .args .i))
+is c = read-is _ (c .before .before .old-roll .ensures) (start c .pre .3) (c .read-roll .ensures)
 
 old-roll-requires : tie.Need-old-roll-requires
 old-roll-requires c κs = let start = c .before .before in (old-lies (start .pre .0) (start .args .i) (start .pre .2), start .pre .0 .short)
@@ -39,7 +44,9 @@ slice-aggregate-rows-derived : tie.Need-slice-aggregate-rows-derived
 slice-aggregate-rows-derived c = sym (fit-length _ _ (fit (c .before .before .before .before .before)))
 
 rows-derived-requires : tie.Need-rows-derived-requires
-rows-derived-requires c κs = let start = c .before .before .before .before .before .before .before .before .before .before in (start .pre .0, start .pre .1, fit-length _ _ (fit (c .before .before .before .before .before)), start .pre .2)
+rows-derived-requires c κs =
+    let k = c .before .before .before .before .before .before .before .before .before .before .pre in
+    (k .0, k .1, fit-length _ _ (fit (c .before .before .before .before .before)), k .2)
 
 returns : tie.Need-returns
 unfolding roll-derived
@@ -47,7 +54,8 @@ returns c =
     let a = c .before .before .before .before .before .before .before .before .before .before .before .args in
     let s = now (a .s) in
     let ours : Roll = record { count = a .rows; rows = now (a .table) } in
-    let no : no-more ours (roll-of s (a .i)) ≡ true = sym (ap (no-more ours) (is (c .before .before .before .before .before .before))) ∙ sym (c .before .before .before .no-more .ensures) ∙ c .before .before .if1 .taken in
+    let no : no-more ours (roll-of s (a .i)) ≡ true =
+    sym (ap (no-more ours) (is (c .before .before .before .before .before .before))) ∙ sym (c .before .before .before .no-more .ensures) ∙ c .before .before .if1 .taken in
     rw no (c .rows-derived .ensures ∙ ap (λ (old : Roll). each (led ours old s (a .i)) (a .rows)) (is (c .before .before .before .before .before .before)))
 
 returns-2 : tie.Need-returns-2
@@ -55,7 +63,8 @@ unfolding roll-derived
 returns-2 c =
     let a = c .before .before .before .before .before .before .before .before .before .args in
     let ours : Roll = record { count = a .rows; rows = now (a .table) } in
-    let no : no-more ours (roll-of (now (a .s)) (a .i)) ≡ false = sym (ap (no-more ours) (is (c .before .before .before .before))) ∙ sym (c .before .no-more .ensures) ∙ c .if1 .left in
+    let no : no-more ours (roll-of (now (a .s)) (a .i)) ≡ false =
+    sym (ap (no-more ours) (is (c .before .before .before .before))) ∙ sym (c .before .no-more .ensures) ∙ c .if1 .left in
     rw no
 
 pub roll-derived-spec : {M : Type 1} → statement M
