@@ -16,7 +16,6 @@ ghost use Rattle.octets.specs.Strings.{same};
 ghost use Rattle.rows.specs.Sizes.{most-rows, table-bytes};
 ghost use Rattle.rows.specs.Row.{label-of, tail-of, height-of};
 ghost use Rattle.rows.specs.Search as search;
-ghost use Rattle.roll.specs.Roll.{Roll};
 ghost use Rattle.statement.specs.Kinds.{digest-bytes};
 ghost use Rattle.rules.specs.Rows.{is-absent};
 ghost use Rattle.rules.specs.Derivation.{no-more, grown, row-derived};

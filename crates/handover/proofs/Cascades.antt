@@ -1,6 +1,6 @@
 -- Laws of the tests of both calls in their order: which part decides, and what is known where none refuses. Assumes nothing.
 use mathlib.Core.Path.{_≡_, refl, sym, ap, _∙_}
-use mathlib.Core.Bool.{Bool, true, false, not, _||_}
+use mathlib.Core.Bool.{true, false, not}
 use mathlib.Core.List.{List, [], _∷_, _++_, append-nil, append-assoc}
 use Prim.Native.Nat.{ℕ, _≤_, _<_}
 use native.Mathlib.Omega.{arith}
@@ -11,7 +11,7 @@ use Rattle.refusals.specs.{accepted, not-prepared, rack-broken, digest-differs,
 use Rattle.refusals.specs.Order.{Test, _⇒_, first}
 use Rattle.refusals.proofs.Orders.{numbered, passes, stops, goes-on, none-refuses, refuses, lets-by}
 use Rattle.octets.specs.Layouts.{holds}
-use Rattle.rack.specs.Racks.{rack-layout, majority}
+use Rattle.rack.specs.Racks.{rack-layout}
 use Rattle.marks.specs.Entries.{marks-tests, pair-marks}
 use Rattle.marks.proofs.Refused.{marks-numbered}
 use Rattle.rows.specs.Table.{each, rows-fit}
@@ -25,7 +25,7 @@ use Rattle.rules.specs.Activate.{rack-size, own-roll, racks-differ, bundle-test
 use Rattle.rules.specs.Check.{entries-of}
 use Rattle.rules.proofs.Firsts.{ready, sound-rows}
 use Rattle.bundle.proofs.Places.{bundle-short, bundle-ends}
-use Rattle.handover.specs.Asked.{rack-tests, roll-held, Laid, Shown}
+use Rattle.handover.specs.Asked.{rack-tests, few, entry-test, roll-held, Laid, Shown}
 
 -- readiness, the racks, and the bundle's string with its rolls
 module _ (size : ℕ) (k : Lent) (previous own s : List ℕ) where
@@ -60,14 +60,23 @@ module _ (size : ℕ) (k : Lent) (previous own s : List ℕ) where
   pub unready-refuses : (n : ℕ) → n ≡ first asked → (n ≡ accepted → ⊥) → n ≡ first (bundle-tests size k previous own s)
   unready-refuses n e r = e ∙ sym (ap first bundle-parts ∙ stops asked (shown-tests ++ string-tests) n asked-numbered e r)
 
-  module _ (n : ℕ) (e : n ≡ first asked) (a : n ≡ accepted) (m : ℕ) (f : m ≡ first shown-tests) where
-    pub racks-refuse : (m ≡ accepted → ⊥) → m ≡ first (bundle-tests size k previous own s)
-    racks-refuse r =
-        f ∙ sym (ap first bundle-parts ∙ goes-on asked (shown-tests ++ string-tests) n asked-numbered e a ∙ stops shown-tests string-tests m racks-numbered f r)
+  module _ (e : first asked ≡ accepted) where
+    pub racks-refuse : (m : ℕ) → m ≡ first shown-tests → (m ≡ accepted → ⊥) → m ≡ first (bundle-tests size k previous own s)
+    racks-refuse m f r =
+        f
+        ∙ sym (ap first bundle-parts ∙ goes-on asked (shown-tests ++ string-tests) accepted asked-numbered (sym e) refl ∙ stops shown-tests string-tests m racks-numbered f r)
 
-    pub string-decides : m ≡ accepted → first (bundle-tests size k previous own s) ≡ first string-tests
-    string-decides g =
-        ap first bundle-parts ∙ goes-on asked (shown-tests ++ string-tests) n asked-numbered e a ∙ goes-on shown-tests string-tests m racks-numbered f g
+    pub string-decides : first shown-tests ≡ accepted → first (bundle-tests size k previous own s) ≡ first string-tests
+    string-decides f =
+        ap first bundle-parts ∙ goes-on asked (shown-tests ++ string-tests) accepted asked-numbered (sym e) refl ∙ goes-on shown-tests string-tests accepted racks-numbered (sym f) refl
+
+  -- the tests after them
+  module _ (us : List Test) where
+    pub bundle-refuses : (n : ℕ) → n ≡ first (bundle-tests size k previous own s) → (n ≡ accepted → ⊥) → n ≡ first (bundle-tests size k previous own s ++ us)
+    bundle-refuses n e r = e ∙ sym (stops (bundle-tests size k previous own s) us n bundle-numbered e r)
+
+    pub bundle-passes : first (bundle-tests size k previous own s) ≡ accepted → first (bundle-tests size k previous own s ++ us) ≡ first us
+    bundle-passes e = goes-on (bundle-tests size k previous own s) us accepted bundle-numbered (sym e) refl
 
   pub ready-rows : first asked ≡ accepted → rows-fit (k .head .count) (k .table) ≡ true
   ready-rows e = sound-rows (k .head) (k .table) (ready size prepared not-prepared k [] (eqb-false 5 0 refl) (ap first (append-nil asked) ∙ e) .0 .sounds)
@@ -95,10 +104,10 @@ module _ (size : ℕ) (k : Lent) (previous own s : List ℕ) where
 
   -- Bytes to check has one test more
   pub listed :
-      (list i : ℕ) → first (bundle-tests size k previous own s ++ (not (ltb i (entries-of s list)) ⇒ list-broken) ∷ []) ≡ accepted
+      (list i : ℕ) → first (bundle-tests size k previous own s ++ entry-test s list i) ≡ accepted
       → (first (bundle-tests size k previous own s) ≡ accepted) × (i < entries-of s list)
   listed list i e =
-      let p = none-refuses (bundle-tests size k previous own s) ((not (ltb i (entries-of s list)) ⇒ list-broken) ∷ []) bundle-numbered e in
+      let p = none-refuses (bundle-tests size k previous own s) (entry-test s list i) bundle-numbered e in
       let q = passes (not (ltb i (entries-of s list))) list-broken [] (eqb-false 22 0 refl) (p .1) in
       (p .0, ltb-true i (entries-of s list) (not-false (ltb i (entries-of s list)) (q .0)))
 
@@ -110,8 +119,8 @@ racks-hold h previous own e =
     (not-false (holds rack-layout previous) (a .0), not-false (holds rack-layout own) (b .0))
 
 -- a bundle's parts lie within it
-pub laid : (h : Head) (table previous own s : List ℕ) → Shown h table previous own s → Laid (h .count) s
-laid h table previous own s k =
+pub laid : {h : Head} {table previous own s : List ℕ} → Shown h table previous own s → Laid (h .count) s
+laid {h} {table} {previous} {own} {s} k =
     record {
       few = fit-count (h .count) table (k .rows);
       ends = omega (arith, bundle-ends (rack-size previous) (rack-size own) (h .count) s (k .fits));
@@ -120,9 +129,6 @@ laid h table previous own s k =
 
 -- majorities, the marks of both lists, and the roll
 module _ (k : Lent) (previous own s : List ℕ) where
-  abbrev pub few : Bool
-  few = ltb (old-count s) (majority (rack-size previous)) || ltb (new-count s) (majority (rack-size own))
-
   abbrev olds : List Test
   olds = marks-tests signature-not-valid (old-marks s) (old-count s)
 
@@ -132,29 +138,32 @@ module _ (k : Lent) (previous own s : List ℕ) where
   abbrev pub roll-test : List Test
   roll-test = (not (derived (own-roll k) s) ⇒ not-derived) ∷ []
 
-  handover-parts : handover-tests k previous own s ≡ (few ⇒ too-few) ∷ (olds ++ (news ++ roll-test))
+  handover-parts : handover-tests k previous own s ≡ (few previous own s ⇒ too-few) ∷ (olds ++ (news ++ roll-test))
   unfolding handover-tests
-  handover-parts = ap (λ (ts : List Test). (few ⇒ too-few) ∷ ts) (append-assoc olds news roll-test)
+  handover-parts = ap (λ (ts : List Test). (few previous own s ⇒ too-few) ∷ ts) (append-assoc olds news roll-test)
 
-  pub few-refuse : few ≡ true → first (handover-tests k previous own s) ≡ too-few
-  few-refuse e = ap first handover-parts ∙ refuses few too-few (olds ++ (news ++ roll-test)) e
+  pub few-refuse : few previous own s ≡ true → first (handover-tests k previous own s) ≡ too-few
+  few-refuse e = ap first handover-parts ∙ refuses (few previous own s) too-few (olds ++ (news ++ roll-test)) e
 
-  module _ (many : few ≡ false) (n : ℕ) (e : n ≡ first olds) where
-    pub old-refuse : (n ≡ accepted → ⊥) → n ≡ first (handover-tests k previous own s)
-    old-refuse r =
-        e ∙ sym (ap first handover-parts ∙ lets-by few too-few (olds ++ (news ++ roll-test)) many ∙ stops olds (news ++ roll-test) n (marks-numbered signature-not-valid (omega arith) (old-marks s) (old-count s)) e r)
+  module _ (many : few previous own s ≡ false) where
+    olds-next : first (handover-tests k previous own s) ≡ first (olds ++ (news ++ roll-test))
+    olds-next = ap first handover-parts ∙ lets-by (few previous own s) too-few (olds ++ (news ++ roll-test)) many
 
-    module _ (a : n ≡ accepted) (m : ℕ) (f : m ≡ first news) where
+    olds-numbered : numbered olds ≡ true
+    olds-numbered = marks-numbered signature-not-valid (omega arith) (old-marks s) (old-count s)
+
+    pub old-refuse : (n : ℕ) → n ≡ first olds → (n ≡ accepted → ⊥) → n ≡ first (handover-tests k previous own s)
+    old-refuse n e r = e ∙ sym (olds-next ∙ stops olds (news ++ roll-test) n olds-numbered e r)
+
+    module _ (e : first olds ≡ accepted) where
       news-next : first (handover-tests k previous own s) ≡ first (news ++ roll-test)
-      news-next =
-          ap first handover-parts ∙ lets-by few too-few (olds ++ (news ++ roll-test)) many
-          ∙ goes-on olds (news ++ roll-test) n (marks-numbered signature-not-valid (omega arith) (old-marks s) (old-count s)) e a
+      news-next = olds-next ∙ goes-on olds (news ++ roll-test) accepted olds-numbered (sym e) refl
 
       news-numbered : numbered news ≡ true
       news-numbered = marks-numbered initialise-not-valid (omega arith) (pair-marks (new-entries s)) (new-count s)
 
-      pub new-refuse : (m ≡ accepted → ⊥) → m ≡ first (handover-tests k previous own s)
-      new-refuse r = f ∙ sym (news-next ∙ stops news roll-test m news-numbered f r)
+      pub new-refuse : (n : ℕ) → n ≡ first news → (n ≡ accepted → ⊥) → n ≡ first (handover-tests k previous own s)
+      new-refuse n f r = f ∙ sym (news-next ∙ stops news roll-test n news-numbered f r)
 
-      pub roll-decides : m ≡ accepted → first (handover-tests k previous own s) ≡ first roll-test
-      roll-decides b = news-next ∙ goes-on news roll-test m news-numbered f b
+      pub roll-decides : first news ≡ accepted → first (handover-tests k previous own s) ≡ first roll-test
+      roll-decides f = news-next ∙ goes-on news roll-test accepted news-numbered (sym f) refl

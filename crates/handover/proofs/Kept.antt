@@ -12,6 +12,7 @@ use Rattle.octets.specs.Strings.{same}
 use Rattle.octets.proofs.RoundTrips.{and-left, and-right}
 use Rattle.rows.specs.Row.{tail-of, height-of}
 use Rattle.rows.specs.Table.{each}
+use Rattle.rows.proofs.Tables.{each-of}
 use Rattle.roll.specs.Roll.{Roll}
 use Rattle.rules.specs.Rows.{is-absent, row-number}
 use Rattle.rules.specs.Bundle.{old-count, added, list-of, digests}
@@ -37,16 +38,6 @@ module _ (test : ℕ → Bool) where
       go earlier (yes l) = rw (earlier l)
       go earlier (no g) = let e : i ≡ n = omega arith in or-true (some test n) (rw e at k)
 
-  -- what holds of each holds of one of them
-  pub each-gives : (n i : ℕ) → i < n → each test n ≡ true → test i ≡ true
-  unfolding each
-  each-gives zero i h e = absurd (not-suc-le-zero h)
-  each-gives (suc n) i h e = go (λ l. each-gives n i l (and-left (each test n) (test n) e)) (decLt i n)
-    where
-      go : (i < n → test i ≡ true) → Dec (i < n) → test i ≡ true
-      go earlier (yes l) = earlier l
-      go earlier (no g) = let q : n ≡ i = omega arith in rw q at (and-right (each test n) (test n) e)
-
 -- two tests that agree on all numbers below n
 module _ (f g : ℕ → Bool) where
   pub some-same : (n : ℕ) → ((i : ℕ) → i < n → f i ≡ g i) → some f n ≡ some g n
@@ -69,8 +60,8 @@ module _ (ours : Roll) (s : List ℕ) (all : each (roll-derived ours s) (old-cou
       let q = row-number (row-in old ours r) in
       let n = added s (list-of (ours .count) i r) in
       let d = digests s (list-of (ours .count) i r) in
-      let whole = and-right (no-more ours old) (each (led ours old s i) (ours .count)) (each-gives (roll-derived ours s) (old-count s) i h all) in
-      let row = each-gives (led ours old s i) (ours .count) r k whole in
+      let whole = and-right (no-more ours old) (each (led ours old s i) (ours .count)) (each-of (roll-derived ours s) (old-count s) i h all) in
+      let row = each-of (led ours old s i) (ours .count) r k whole in
       let present = not (is-absent (row-in old ours r)) in
       let high = eqb (height-of (old .rows) q + n) (height-of (ours .rows) r) in
       and-left present high (and-left (present && high) (same (grown (tail-of (old .rows) q) d n) (tail-of (ours .rows) r)) row)

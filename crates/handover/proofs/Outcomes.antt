@@ -1,10 +1,9 @@
 -- Each call's contract allows one outcome: two that it allows for the same arguments have the same result, and leave the same in what is lent. Assumes nothing.
-use mathlib.Core.Path.{_≡_, sym, ap, _∙_}
+use mathlib.Core.Path.{sym, ap, _∙_}
 use mathlib.Core.List.{[]}
 use denote.Ref.{now}
 use Rattle.rack.proofs.Outcomes.{One}
-use Rattle.rules.specs.declared.Told.{Told}
-use Rattle.rules.specs.Outcomes.{Lent, Outcome, outcome}
+use Rattle.rules.specs.Outcomes.{Outcome, outcome}
 use Rattle.handover.proofs.activating.activate.Kinds as activate
 use Rattle.handover.proofs.activating.activate.Reads as activate-contract
 use Rattle.handover.proofs.checking.bytes_to_check.Kinds as bytes-to-check

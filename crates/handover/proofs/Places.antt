@@ -1,10 +1,10 @@
 -- Laws of the places of a bundle's parts, walked from one to the next, and of the parts that are cut out there. Assumes nothing.
 use mathlib.Core.Path.{_≡_, sym, ap, _∙_}
 use mathlib.Core.List.{List}
-use Prim.Native.Nat.{ℕ, suc, _+_, _-_, _*_, _/_, _<_, _≤_}
+use Prim.Native.Nat.{ℕ, suc, _+_, _*_, _/_, _<_, _≤_}
 use native.Mathlib.Nat.{mul-suc, mul-le-mul-left}
 use native.Mathlib.Omega.{arith}
-use lib.ListN.{length, take, drop, length-drop}
+use lib.ListN.{length, drop, length-drop}
 use lib.Seq.{length-take-le}
 use Rattle.rows.specs.Sizes.{most-rows}
 use Rattle.statement.specs.Kinds.{digest-bytes}
@@ -31,7 +31,7 @@ pub few-lists : (rows i : ℕ) → rows ≤ most-rows → i < 256 → rows * i �
 few-lists rows i h k = omega (arith, mul-le-mul-left {m = i} {n = 256} rows (omega arith))
 
 -- where the parts lie within
-module _ (rows : ℕ) (s : List ℕ) (l : Laid rows s) where
+module _ {rows : ℕ} {s : List ℕ} (l : Laid rows s) where
   pub list-begins : (j : ℕ) → j ≤ rows * old-count s → list-at s j ≤ length s
   list-begins j h = omega (arith, l .ends, list-later s j (rows * old-count s) h)
 

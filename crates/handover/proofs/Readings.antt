@@ -5,7 +5,7 @@ use mathlib.Core.List.{List}
 use Prim.Native.Nat.{ℕ}
 use lib.Dec.{eqb}
 use Rattle.refusals.specs.{accepted}
-use Rattle.octets.specs.Layouts.{Layout, holds, read}
+use Rattle.octets.specs.Layouts.{holds, read}
 use Rattle.octets.proofs.RoundTrips.{holds-fits}
 use Rattle.rows.specs.Table.{rows-fit}
 use Rattle.roll.specs.Roll.{Roll, Reading, roll-layout, outcome, reading-roll}
@@ -21,7 +21,7 @@ answered s area = go (holds roll-layout s) refl
 
 -- the table that a roll is read into, and its count, are the roll taken apart
 module _
-    (part roll area : List ℕ) (answer count : ℕ) (rows : List ℕ) (p : part ≡ roll) (h : holds roll-layout roll ≡ true)
+    {part roll : List ℕ} {answer count : ℕ} {rows : List ℕ} (area : List ℕ) (p : part ≡ roll) (h : holds roll-layout roll ≡ true)
     (e : record { answer = answer; count = count; rows = rows } ≡ reading-roll part area)
   where
     pub read-is : _≡_ {A = Roll} (record { count = count; rows = rows }) (roll-layout .cut roll)

@@ -1,26 +1,28 @@
 -- What the functions behind Activate and Bytes to check are asked for, and what they may count on.
 use mathlib.Core.Path.{_≡_}
-use mathlib.Core.Bool.{Bool, true, not, cond}
-use mathlib.Core.List.{List, [], _∷_}
+use mathlib.Core.Bool.{Bool, true, not, cond, _||_}
+use mathlib.Core.List.{List, [], _∷_, _++_}
 use Prim.Native.Nat.{ℕ, _*_, _≤_}
 use lib.ListN.{length}
-use lib.Dec.{eqb}
-use Rattle.refusals.specs.{rack-broken, digest-differs}
-use Rattle.refusals.specs.Order.{Test, _⇒_}
+use lib.Dec.{eqb, ltb}
+use Rattle.refusals.specs.{rack-broken, digest-differs, list-broken}
+use Rattle.refusals.specs.Order.{Test, _⇒_, first}
 use Rattle.octets.specs.Layouts.{holds}
-use Rattle.rack.specs.Racks.{rack-layout}
+use Rattle.rack.specs.Racks.{rack-layout, majority}
 use Rattle.rows.specs.Sizes.{most-rows}
 use Rattle.rows.specs.Table.{each, rows-fit}
 use Rattle.rows.specs.Digests.{roll-digest}
 use Rattle.roll.specs.Roll.{Roll, roll-layout}
 use Rattle.statement.specs.declared.Kind.the-variants.{Finalise, Initialise}
 use Rattle.statement.specs.declared.Statement.{Statement}
+use Rattle.statement.specs.Kinds.{handover-size}
 use Rattle.statement.specs.Cut.{handover-of}
 use Rattle.rules.specs.declared.Head.{Head}
-use Rattle.rules.specs.Bundle.{longest-bundle, old-count, old-roll, list-at, list-of, added, digests, bundle-fits}
+use Rattle.rules.specs.Outcomes.{Lent}
+use Rattle.rules.specs.Bundle.{longest-bundle, old-count, old-roll, new-count, list-at, list-of, added, digests, bundle-fits}
 use Rattle.rules.specs.Derivation.{some, row-derived, roll-of}
-use Rattle.rules.specs.Activate.{rack-size, racks-differ}
-use Rattle.rules.specs.Check.{old-list}
+use Rattle.rules.specs.Activate.{rack-size, racks-differ, bundle-tests, handover-tests}
+use Rattle.rules.specs.Check.{old-list, entries-of}
 
 -- "6 (previous, then own), 21"
 unfoldable pub rack-tests : Head → List ℕ → List ℕ → List Test
@@ -29,6 +31,21 @@ rack-tests h previous own =
     ∷ (not (holds rack-layout own) ⇒ rack-broken)
     ∷ (racks-differ h previous own ⇒ digest-differs)
     ∷ []
+
+-- "16": a list has fewer entries than a majority of its rack
+abbrev pub few : List ℕ → List ℕ → List ℕ → Bool
+few previous own s = ltb (old-count s) (majority (rack-size previous)) || ltb (new-count s) (majority (rack-size own))
+
+-- "then 22 if that list has no such entry"
+abbrev pub entry-test : List ℕ → ℕ → ℕ → List Test
+entry-test s list i = (not (ltb i (entries-of s list)) ⇒ list-broken) ∷ []
+
+-- the refusals of both calls
+abbrev pub activate-refusal : Lent → List ℕ → List ℕ → List ℕ → ℕ
+activate-refusal k previous own s = first (bundle-tests 0 k previous own s ++ handover-tests k previous own s)
+
+abbrev pub check-refusal : Lent → List ℕ → List ℕ → List ℕ → ℕ → ℕ → ℕ
+check-refusal k previous own s list i = first (bundle-tests handover-size k previous own s ++ entry-test s list i)
 
 -- the blocks of old entry i are a roll
 abbrev pub roll-held : List ℕ → ℕ → Bool

@@ -12,20 +12,22 @@ use record::refusal;
 use rules::Head;
 use rules::Told;
 ghost use mathlib.Core.Path.{_≡_};
-ghost use mathlib.Core.Bool.{_||_};
-ghost use mathlib.Core.List.{[], _++_};
-ghost use lib.Dec.{ltb};
+ghost use mathlib.Core.Bool.{true};
+ghost use mathlib.Core.List.{[]};
+ghost use Prim.Native.Nat.{_<_, _≤_};
+ghost use lib.ListN.{length};
 ghost use Rattle.refusals.specs.Order.{first};
-ghost use Rattle.rack.specs.Racks as racks;
-ghost use Rattle.rules.specs.Bundle.{old-count, new-count};
+ghost use Rattle.octets.specs.Layouts.{holds};
+ghost use Rattle.rack.specs.Racks.{rack-layout};
+ghost use Rattle.rules.specs.Bundle.{longest-bundle, new-at};
 ghost use Rattle.rules.specs.Outcomes.{Lent, outcome};
-ghost use Rattle.rules.specs.Activate.{rack-size, bundle-tests, handover-tests, acting, activating};
-ghost use Rattle.handover.specs.Asked.{Shown};
+ghost use Rattle.rules.specs.Activate.{handover-tests, acting, activating};
+ghost use Rattle.handover.specs.Asked.{few, activate-refusal, Shown};
 
 // Whether a list has fewer entries than a majority of its rack.
-fn are_too_few(head: Head, table: &[u8], previous: &[u8], own: &[u8], s: &[u8]) -> bool
-    requires { ⌜ Shown head (now table) (now previous) (now own) (now s) ⌝ }
-    ensures { λ r. ⌜ r ≡ (ltb (old-count (now (s .entry))) (racks.majority (rack-size (now (previous .entry)))) || ltb (new-count (now (s .entry))) (racks.majority (rack-size (now (own .entry))))) ⌝ }
+fn are_too_few(previous: &[u8], own: &[u8], s: &[u8]) -> bool
+    requires { ⌜ (holds rack-layout (now previous) ≡ true) × (holds rack-layout (now own) ≡ true) × (new-at (now s) < length (now s)) × (length (now s) ≤ longest-bundle) ⌝ }
+    ensures { λ r. ⌜ r ≡ few (now (previous .entry)) (now (own .entry)) (now (s .entry)) ⌝ }
 {
     if old_count(s) < majority(previous[0]) as usize {
         return true;
@@ -38,7 +40,7 @@ fn unhanded(head: Head, table: &[u8], previous: &[u8], own: &[u8], s: &[u8]) -> 
     requires { ⌜ Shown head (now table) (now previous) (now own) (now s) ⌝ }
     ensures { λ r. ⌜ r ≡ first (handover-tests (record { head = head; table = now (table .entry); area = [] }) (now (previous .entry)) (now (own .entry)) (now (s .entry))) ⌝ }
 {
-    if are_too_few(head, table, previous, own, s) {
+    if are_too_few(previous, own, s) {
         return refusals::TOO_FEW;
     }
     let old = unmarked_old(s, refusals::SIGNATURE_NOT_VALID);
@@ -57,7 +59,7 @@ fn unhanded(head: Head, table: &[u8], previous: &[u8], own: &[u8], s: &[u8]) -> 
 
 // The first refusal, or 0.
 fn refusal_of_activate(head: Head, table: &[u8], previous: &[u8], own: &[u8], s: &[u8]) -> u32
-    ensures { λ r. ⌜ r ≡ first (bundle-tests 0 (record { head = head; table = now (table .entry); area = [] }) (now (previous .entry)) (now (own .entry)) (now (s .entry)) ++ handover-tests (record { head = head; table = now (table .entry); area = [] }) (now (previous .entry)) (now (own .entry)) (now (s .entry))) ⌝ }
+    ensures { λ r. ⌜ r ≡ activate-refusal (record { head = head; table = now (table .entry); area = [] }) (now (previous .entry)) (now (own .entry)) (now (s .entry)) ⌝ }
 {
     let n = unbundled(head, table, &s[..0], 0, previous, own, s);
     if n != refusals::ACCEPTED {

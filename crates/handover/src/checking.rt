@@ -17,18 +17,13 @@ use statement::Kind;
 use statement::Statement;
 use statement::handover_statement;
 ghost use mathlib.Core.Path.{_≡_};
-ghost use mathlib.Core.Bool.{true, not};
-ghost use mathlib.Core.List.{[], _∷_, _++_};
-ghost use Prim.Native.Nat.{_<_};
-ghost use lib.Dec.{ltb};
-ghost use Rattle.refusals.specs.{list-broken};
-ghost use Rattle.refusals.specs.Order.{_⇒_, first};
-ghost use Rattle.statement.specs.Kinds.{handover-size};
-ghost use Rattle.rules.specs.Bundle.{old-count};
+ghost use mathlib.Core.Bool.{true};
+ghost use Prim.Native.Nat.{_+_, _<_, _≤_};
+ghost use lib.ListN.{length};
+ghost use Rattle.rules.specs.Bundle.{longest-bundle, old-at, new-at};
 ghost use Rattle.rules.specs.Outcomes.{Lent, outcome};
-ghost use Rattle.rules.specs.Activate.{bundle-tests};
 ghost use Rattle.rules.specs.Check.{entries-of, checking};
-ghost use Rattle.handover.specs.Asked.{Laid, Shown, roll-held, old-digest, spoken};
+ghost use Rattle.handover.specs.Asked.{check-refusal, roll-held, old-digest, spoken};
 
 // The lists by their numbers.
 const OLD: u8 = 0;
@@ -36,8 +31,8 @@ const OLD: u8 = 0;
 const NEW: u8 = 1;
 
 // How many entries a list has; there is no third list.
-fn entries_of(rows: usize, s: &[u8], list: u8) -> usize
-    requires { ⌜ Laid rows (now s) ⌝ }
+fn entries_of(s: &[u8], list: u8) -> usize
+    requires { ⌜ (new-at (now s) < length (now s)) × (length (now s) ≤ longest-bundle) ⌝ }
     ensures { λ r. ⌜ r ≡ entries-of (now (s .entry)) list ⌝ }
 {
     if list == OLD {
@@ -60,21 +55,21 @@ fn refusal_of_check(
     list: u8,
     entry: u64,
 ) -> u32
-    ensures { λ r. ⌜ r ≡ first (bundle-tests handover-size (record { head = head; table = now (table .entry); area = now (area .entry) }) (now (previous .entry)) (now (own .entry)) (now (s .entry)) ++ (not (ltb entry (entries-of (now (s .entry)) list)) ⇒ list-broken) ∷ []) ⌝ }
+    ensures { λ r. ⌜ r ≡ check-refusal (record { head = head; table = now (table .entry); area = now (area .entry) }) (now (previous .entry)) (now (own .entry)) (now (s .entry)) list entry ⌝ }
 {
     let n = unbundled(head, table, area, HANDOVER_SIZE, previous, own, s);
     if n != refusals::ACCEPTED {
         return n;
     }
-    if entry < entries_of(head.count as usize, s, list) as u64 {
+    if entry < entries_of(s, list) as u64 {
         return refusals::ACCEPTED;
     }
     refusals::LIST_BROKEN
 }
 
 // The digest of the roll of old entry i.
-fn old_digest(rows: usize, s: &[u8], i: usize) -> [u8; DIGEST]
-    requires { ⌜ Laid rows (now s) × (i < old-count (now s)) × (roll-held (now s) i ≡ true) ⌝ }
+fn old_digest(s: &[u8], i: usize) -> [u8; DIGEST]
+    requires { ⌜ (old-at (now s) (i + 1) ≤ length (now s)) × (length (now s) ≤ longest-bundle) × (roll-held (now s) i ≡ true) ⌝ }
     ensures { λ r. ⌜ r ≡ old-digest (now (s .entry)) i ⌝ }
 {
     let mut old = [0u8; TABLE];
@@ -84,14 +79,14 @@ fn old_digest(rows: usize, s: &[u8], i: usize) -> [u8; DIGEST]
 
 // The statement that the marks of an entry speak of: the old keeper's last words, or this keeper's first.
 fn spoken(head: Head, table: &[u8], s: &[u8], list: u8, i: usize) -> Statement
-    requires { ⌜ Laid (head .count) (now s) × (list ≡ 0 → i < old-count (now s)) × (list ≡ 0 → roll-held (now s) i ≡ true) ⌝ }
+    requires { ⌜ (list ≡ 0 → old-at (now s) (i + 1) ≤ length (now s)) × (length (now s) ≤ longest-bundle) × (list ≡ 0 → roll-held (now s) i ≡ true) ⌝ }
     ensures { λ r. ⌜ r ≡ spoken head (now (table .entry)) (now (s .entry)) list i ⌝ }
 {
     let identity = head.identity;
     let own = head.own;
     let previous = head.previous;
     if list == OLD {
-        let roll = old_digest(head.count as usize, s, i);
+        let roll = old_digest(s, i);
         return handover_statement(Kind::Finalise, identity, previous, own, roll);
     }
     let roll = roll_digest(head.count as usize, table);

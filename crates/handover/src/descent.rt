@@ -15,7 +15,6 @@ ghost use Prim.Native.Nat.{_<_};
 ghost use lib.ListN.{length};
 ghost use Rattle.rows.specs.Sizes.{table-bytes};
 ghost use Rattle.rows.specs.Table.{each};
-ghost use Rattle.roll.specs.Roll.{Roll};
 ghost use Rattle.rules.specs.Bundle.{old-count};
 ghost use Rattle.rules.specs.Derivation as rule;
 ghost use Rattle.handover.specs.Asked.{Laid, roll-held, led};

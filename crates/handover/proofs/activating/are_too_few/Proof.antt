@@ -1,5 +1,6 @@
 -- `handover::activating::are_too_few` meets its contract. Assumes nothing.
 use mathlib.Core.Path.{ap₂}
+use Prim.Native.Nat.{_<_, _≤_}
 use native.Mathlib.Omega.{arith}
 use denote.Ref.{now}
 use borrow.Author.Tests.{lt-ltb, le-ltb}
@@ -9,18 +10,14 @@ use Rattle.rack.specs.Racks.{rack-cut, majority}
 use Rattle.rack.proofs.RackTrips.{rack-length}
 use Rattle.rules.specs.Bundle.{old-count}
 use Rattle.rules.specs.Activate.{rack-size}
-use Rattle.bundle.proofs.Places.{bundle-short, new-within}
 use Rattle.handover.proofs.activating.are_too_few.Statement.{statement}
 use Rattle.handover.proofs.activating.are_too_few.Tie as tie
 
 old-count-requires : tie.Need-old-count-requires
-old-count-requires c κs =
-    let start = c .before .before .before .before in
-    let a = start .args in
-    omega (arith, new-within (rack-size (now (a .previous))) (rack-size (now (a .own))) (a .head .count) (now (a .s)) (start .pre .fits))
+old-count-requires c κs = omega (arith, c .before .before .before .pre .2)
 
 shared-slice-read-majority : tie.Need-shared-slice-read-majority
-shared-slice-read-majority c = let start = c .before .before .before .before .before .before in omega (arith, rack-length (now (start .args .previous)) (start .pre .before))
+shared-slice-read-majority c = let start = c .before .before .before .before .before in omega (arith, rack-length (now (start .args .previous)) (start .pre .0))
 
 majority-requires : tie.Need-majority-requires
 majority-requires c κs = search needs
@@ -31,17 +28,16 @@ cast-if1 c = search needs
 returns : tie.Need-returns
 unfolding rack-cut
 returns c =
-    let a = c .before .before .before .before .before .before .before .before .args in
-    rw (lt-ltb (old-count (now (a .s))) (majority (rack-size (now (a .previous)))) (omega (arith, c .if1 .taken, c .before .before .before .old-count .ensures, c .before .majority .ensures)))
+    let a = c .before .before .before .before .before .before .before .args in
+    let less : old-count (now (a .s)) < majority (rack-size (now (a .previous))) =
+    omega (arith, c .if1 .taken, c .before .before .before .old-count .ensures, c .before .majority .ensures) in
+    rw (lt-ltb (old-count (now (a .s))) (majority (rack-size (now (a .previous)))) less)
 
 new-count-requires : tie.Need-new-count-requires
-new-count-requires c κs =
-    let start = c .before .before .before .before .before .before .before .before in
-    let a = start .args in
-    (omega (arith, new-within (rack-size (now (a .previous))) (rack-size (now (a .own))) (a .head .count) (now (a .s)) (start .pre .fits)), bundle-short (rack-size (now (a .previous))) (rack-size (now (a .own))) (a .head .count) (now (a .s)) (start .pre .fits))
+new-count-requires c κs = let start = c .before .before .before .before .before .before .before in (start .pre .2, start .pre .3)
 
 shared-slice-read-majority-2 : tie.Need-shared-slice-read-majority-2
-shared-slice-read-majority-2 c = let start = c .before .before .before .before .before .before .before .before .before .before in omega (arith, rack-length (now (start .args .own)) (start .pre .mine))
+shared-slice-read-majority-2 c = let start = c .before .before .before .before .before .before .before .before .before in omega (arith, rack-length (now (start .args .own)) (start .pre .1))
 
 majority-requires-2 : tie.Need-majority-requires-2
 majority-requires-2 c κs = search needs
@@ -52,9 +48,10 @@ cast-result c = search needs
 returns-2 : tie.Need-returns-2
 unfolding rack-cut
 returns-2 c =
-    let a = c .before .before .before .before .before .before .before .before .before .before .before .args in
-    rw (le-ltb (old-count (now (a .s))) (majority (rack-size (now (a .previous)))) (omega (arith, c .before .before .before .if1 .left, c .before .before .before .before .before .before .old-count .ensures, c .before .before .before .before .majority .ensures)))
-    (ap₂ ltb (c .before .before .new-count .ensures) (c .majority2 .ensures))
+    let a = c .before .before .before .before .before .before .before .before .before .before .args in
+    let many : majority (rack-size (now (a .previous))) ≤ old-count (now (a .s)) =
+    omega (arith, c .before .before .before .if1 .left, c .before .before .before .before .before .before .old-count .ensures, c .before .before .before .before .majority .ensures) in
+    rw (le-ltb (old-count (now (a .s))) (majority (rack-size (now (a .previous)))) many) (ap₂ ltb (c .before .before .new-count .ensures) (c .majority2 .ensures))
 
 pub are-too-few-spec : {M : Type 1} → statement M
 are-too-few-spec =

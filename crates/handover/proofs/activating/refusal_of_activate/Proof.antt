@@ -3,10 +3,8 @@ use mathlib.Core.Path.{sym, _∙_}
 use mathlib.Core.List.{[]}
 use denote.Ref.{now}
 use borrow.Author.Needs.{needs}
-use Rattle.refusals.proofs.Orders.{stops, goes-on}
 use Rattle.rules.specs.Outcomes.{Lent}
-use Rattle.rules.specs.Activate.{bundle-tests, handover-tests}
-use Rattle.handover.proofs.Cascades.{bundle-numbered, shown}
+use Rattle.handover.proofs.Cascades.{bundle-refuses, bundle-passes, shown}
 use Rattle.handover.proofs.activating.refusal_of_activate.Statement.{statement}
 use Rattle.handover.proofs.activating.refusal_of_activate.Tie as tie
 
@@ -21,7 +19,7 @@ returns c =
     let a = c .before .before .before .before .before .before .before .args in
     let k : Lent = record { head = a .head; table = now (a .table); area = [] } in
     let n = c .before .unbundled in
-    n .ensures ∙ sym (stops (bundle-tests 0 k (now (a .previous)) (now (a .own)) (now (a .s))) (handover-tests k (now (a .previous)) (now (a .own)) (now (a .s))) (n .result) (bundle-numbered 0 k (now (a .previous)) (now (a .own)) (now (a .s))) (n .ensures) (c .if1 .taken))
+    bundle-refuses 0 k (now (a .previous)) (now (a .own)) (now (a .s)) _ (n .result) (n .ensures) (c .if1 .taken)
 
 unhanded-requires : tie.Need-unhanded-requires
 unhanded-requires c κs =
@@ -33,8 +31,7 @@ returns-2 : tie.Need-returns-2
 returns-2 c =
     let a = c .before .before .before .before .before .before .before .before .args in
     let k : Lent = record { head = a .head; table = now (a .table); area = [] } in
-    let n = c .before .before .unbundled in
-    c .unhanded .ensures ∙ sym (goes-on (bundle-tests 0 k (now (a .previous)) (now (a .own)) (now (a .s))) (handover-tests k (now (a .previous)) (now (a .own)) (now (a .s))) (n .result) (bundle-numbered 0 k (now (a .previous)) (now (a .own)) (now (a .s))) (n .ensures) (c .before .if1 .left))
+    c .unhanded .ensures ∙ sym (bundle-passes 0 k (now (a .previous)) (now (a .own)) (now (a .s)) _ (sym (c .before .before .unbundled .ensures) ∙ c .before .if1 .left))
 
 pub refusal-of-activate-spec : {M : Type 1} → statement M
 refusal-of-activate-spec =

@@ -1,6 +1,6 @@
 -- `handover::activating::unhanded` meets its contract. Assumes nothing.
-use mathlib.Core.Path.{_≡_, sym, ap, _∙_}
-use mathlib.Core.Bool.{Bool, not}
+use mathlib.Core.Path.{_≡_, sym, _∙_}
+use mathlib.Core.Bool.{false}
 use mathlib.Core.List.{[]}
 use native.Mathlib.Omega.{arith}
 use denote.Ref.{now}
@@ -9,14 +9,21 @@ use borrow.Author.Needs.{needs}
 use Rattle.refusals.specs.Order.{first}
 use Rattle.rows.proofs.Tables.{fit-length}
 use Rattle.rules.specs.Outcomes.{Lent}
-use Rattle.rules.specs.Activate.{rack-size}
-use Rattle.bundle.proofs.Places.{bundle-short, new-within, list-within}
+use Rattle.handover.specs.Asked.{few}
 use Rattle.handover.proofs.Cascades.{laid, few-refuse, old-refuse, new-refuse, roll-decides}
+use Rattle.handover.proofs.Places.{list-begins, new-lies}
 use Rattle.handover.proofs.activating.unhanded.Statement.{statement}
 use Rattle.handover.proofs.activating.unhanded.Tie as tie
 
+abbrev start : tie.Else1 → tie.Start
+start c = c .before .before .before .before .before .before
+
+-- neither list has too few
+many : (c : tie.Else1) → few (now (start c .args .previous)) (now (start c .args .own)) (now (start c .args .s)) ≡ false
+many c = sym (c .before .are-too-few .ensures) ∙ c .if1 .left
+
 are-too-few-requires : tie.Need-are-too-few-requires
-are-too-few-requires c κs = search needs
+are-too-few-requires c κs = let k = c .before .before .before .before .pre in (k .before, k .mine, omega (arith, new-lies (laid k)), laid k .short)
 
 returns : tie.Need-returns
 returns c =
@@ -25,34 +32,25 @@ returns c =
     sym (few-refuse k (now (a .previous)) (now (a .own)) (now (a .s)) (sym (c .before .are-too-few .ensures) ∙ c .if1 .taken))
 
 unmarked-old-requires : tie.Need-unmarked-old-requires
-unmarked-old-requires c κs =
-    let start = c .before .before .before .before .before .before in
-    let a = start .args in
-    (omega arith, omega (arith, new-within (rack-size (now (a .previous))) (rack-size (now (a .own))) (a .head .count) (now (a .s)) (start .pre .fits)), bundle-short (rack-size (now (a .previous))) (rack-size (now (a .own))) (a .head .count) (now (a .s)) (start .pre .fits))
+unmarked-old-requires c κs = let k = c .before .before .before .before .before .before .pre in (omega arith, omega (arith, new-lies (laid k)), laid k .short)
 
 returns-2 : tie.Need-returns-2
 returns-2 c =
     let a = c .before .before .before .before .before .before .before .before .args in
     let k : Lent = record { head = a .head; table = now (a .table); area = [] } in
     let old = c .before .unmarked-old in
-    old-refuse k (now (a .previous)) (now (a .own)) (now (a .s)) (sym (c .before .before .before .are-too-few .ensures) ∙ c .before .before .if1 .left) (old .result) (old .ensures) (c .if2 .taken)
+    old-refuse k (now (a .previous)) (now (a .own)) (now (a .s)) (many (c .before .before)) (old .result) (old .ensures) (c .if2 .taken)
 
 unmarked-new-requires : tie.Need-unmarked-new-requires
-unmarked-new-requires c κs =
-    let start = c .before .before .before .before .before .before .before .before in
-    let a = start .args in (
-      omega arith,
-      list-within (rack-size (now (a .previous))) (rack-size (now (a .own))) (a .head .count) (now (a .s)) (start .pre .fits) 0 (omega arith),
-      bundle-short (rack-size (now (a .previous))) (rack-size (now (a .own))) (a .head .count) (now (a .s)) (start .pre .fits),
-    )
+unmarked-new-requires c κs = let k = c .before .before .before .before .before .before .before .before .pre in (omega arith, list-begins (laid k) 0 (omega arith), laid k .short)
 
 returns-3 : tie.Need-returns-3
 returns-3 c =
     let a = c .before .before .before .before .before .before .before .before .before .before .args in
     let k : Lent = record { head = a .head; table = now (a .table); area = [] } in
-    let old = c .before .before .before .unmarked-old in
+    let olds = sym (c .before .before .before .unmarked-old .ensures) ∙ c .before .before .if2 .left in
     let new = c .before .unmarked-new in
-    new-refuse k (now (a .previous)) (now (a .own)) (now (a .s)) (sym (c .before .before .before .before .before .are-too-few .ensures) ∙ c .before .before .before .before .if1 .left) (old .result) (old .ensures) (c .before .before .if2 .left) (new .result) (new .ensures) (c .if3 .taken)
+    new-refuse k (now (a .previous)) (now (a .own)) (now (a .s)) (many (c .before .before .before .before)) olds (new .result) (new .ensures) (c .if3 .taken)
 
 cast-derived : tie.Need-cast-derived
 cast-derived c = search needs
@@ -60,18 +58,17 @@ cast-derived c = search needs
 derived-requires : tie.Need-derived-requires
 derived-requires c κs =
     let start = c .before .before .before .before .before .before .before .before .before .before .before in
-    let a = start .args in
-    (laid (a .head) (now (a .table)) (now (a .previous)) (now (a .own)) (now (a .s)) (start .pre), fit-length (a .head .count) (now (a .table)) (start .pre .rows), start .pre .rolls)
+    (laid (start .pre), fit-length (start .args .head .count) (now (start .args .table)) (start .pre .rows), start .pre .rolls)
 
 returns-4 : tie.Need-returns-4
 unfolding first
 returns-4 c =
     let a = c .before .before .before .before .before .before .before .before .before .before .before .before .before .args in
     let k : Lent = record { head = a .head; table = now (a .table); area = [] } in
-    let old = c .before .before .before .before .before .before .unmarked-old in
-    let new = c .before .before .before .before .unmarked-new in
+    let olds = sym (c .before .before .before .before .before .before .unmarked-old .ensures) ∙ c .before .before .before .before .before .if2 .left in
+    let news = sym (c .before .before .before .before .unmarked-new .ensures) ∙ c .before .before .before .if3 .left in
     sym
-    (roll-decides k (now (a .previous)) (now (a .own)) (now (a .s)) (sym (c .before .before .before .before .before .before .before .before .are-too-few .ensures) ∙ c .before .before .before .before .before .before .before .if1 .left) (old .result) (old .ensures) (c .before .before .before .before .before .if2 .left) (new .result) (new .ensures) (c .before .before .before .if3 .left)
+    (roll-decides k (now (a .previous)) (now (a .own)) (now (a .s)) (many (c .before .before .before .before .before .before .before)) olds news
     ∙ rw (sym (c .before .derived .ensures) ∙ not-true _ (c .if4 .taken)))
 
 returns-5 : tie.Need-returns-5
@@ -79,10 +76,10 @@ unfolding first
 returns-5 c =
     let a = c .before .before .before .before .before .before .before .before .before .before .before .before .before .args in
     let k : Lent = record { head = a .head; table = now (a .table); area = [] } in
-    let old = c .before .before .before .before .before .before .unmarked-old in
-    let new = c .before .before .before .before .unmarked-new in
+    let olds = sym (c .before .before .before .before .before .before .unmarked-old .ensures) ∙ c .before .before .before .before .before .if2 .left in
+    let news = sym (c .before .before .before .before .unmarked-new .ensures) ∙ c .before .before .before .if3 .left in
     sym
-    (roll-decides k (now (a .previous)) (now (a .own)) (now (a .s)) (sym (c .before .before .before .before .before .before .before .before .are-too-few .ensures) ∙ c .before .before .before .before .before .before .before .if1 .left) (old .result) (old .ensures) (c .before .before .before .before .before .if2 .left) (new .result) (new .ensures) (c .before .before .before .if3 .left)
+    (roll-decides k (now (a .previous)) (now (a .own)) (now (a .s)) (many (c .before .before .before .before .before .before .before)) olds news
     ∙ rw (sym (c .before .derived .ensures) ∙ not-false _ (c .if4 .left)))
 
 pub unhanded-spec : {M : Type 1} → statement M

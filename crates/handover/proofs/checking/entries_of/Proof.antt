@@ -1,21 +1,20 @@
 -- `handover::checking::entries_of` meets its contract. Assumes nothing.
 use native.Mathlib.Omega.{arith}
-use denote.Ref.{now}
 use borrow.Author.Tests.{eq-eqb, ne-eqb}
+use borrow.Author.Needs.{needs}
 use Rattle.rules.specs.Check.{entries-of}
-use Rattle.handover.proofs.Places.{new-lies}
 use Rattle.handover.proofs.checking.entries_of.Statement.{statement}
 use Rattle.handover.proofs.checking.entries_of.Tie as tie
 
 old-count-requires : tie.Need-old-count-requires
-old-count-requires c κs = let start = c .before .before in omega (arith, new-lies (start .args .rows) (now (start .args .s)) (start .pre))
+old-count-requires c κs = omega (arith, c .before .before .pre .0)
 
 returns : tie.Need-returns
 unfolding entries-of
 returns c = rw (eq-eqb _ _ (c .before .if1 .taken)) (c .old-count .ensures)
 
 new-count-requires : tie.Need-new-count-requires
-new-count-requires c κs = let start = c .before .before .before in (omega (arith, new-lies (start .args .rows) (now (start .args .s)) (start .pre)), start .pre .short)
+new-count-requires c κs = search needs
 
 returns-2 : tie.Need-returns-2
 unfolding entries-of

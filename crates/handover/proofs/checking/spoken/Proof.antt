@@ -9,21 +9,18 @@ use Rattle.statement.specs.Cut.{handover-of}
 use Rattle.handover.proofs.checking.spoken.Statement.{statement}
 use Rattle.handover.proofs.checking.spoken.Tie as tie
 
-cast-old-digest : tie.Need-cast-old-digest
-cast-old-digest c = search needs
-
 old-digest-requires : tie.Need-old-digest-requires
 old-digest-requires c κs =
-    let start = c .before .before .before .before .before .before .before in
-    (start .pre .0, start .pre .1 (c .before .if1 .taken), start .pre .2 (c .before .if1 .taken))
+    let start = c .before .before .before .before .before .before in
+    (start .pre .0 (c .if1 .taken), start .pre .1, start .pre .2 (c .if1 .taken))
 
 handover-statement-requires : tie.Need-handover-statement-requires
 handover-statement-requires c κs = search needs
 
 returns : tie.Need-returns
 returns c =
-    let h = c .before .before .before .before .before .before .before .before .before .args .head in
-    rw (eq-eqb _ _ (c .before .before .before .if1 .taken))
+    let h = c .before .before .before .before .before .before .before .before .args .head in
+    rw (eq-eqb _ _ (c .before .before .if1 .taken))
     (c .handover-statement .ensures ∙ ap (λ (d : List ℕ). handover-of Finalise (h .identity) (h .previous) (h .own) d) (c .before .old-digest .ensures))
 
 cast-roll-digest : tie.Need-cast-roll-digest
@@ -45,7 +42,6 @@ pub spoken-spec : {M : Type 1} → statement M
 spoken-spec =
     tie.close
     (tie.spec
-    cast-old-digest
     old-digest-requires
     handover-statement-requires
     returns

@@ -6,12 +6,12 @@ use native.Mathlib.Omega.{arith}
 use denote.Ref.{now}
 use borrow.Author.Tests.{not-true, not-false}
 use Rattle.rows.specs.Table.{each}
-use Rattle.rows.proofs.Tables.{each-next, each-fails}
+use Rattle.rows.proofs.Tables.{each-next, each-fails, each-of}
 use Rattle.roll.specs.Roll.{Roll}
 use Rattle.rules.specs.Bundle.{old-count}
 use Rattle.rules.specs.Derivation.{roll-derived}
 use Rattle.handover.specs.Asked.{roll-held}
-use Rattle.handover.proofs.Kept.{each-gives, rows-decide, not-derived}
+use Rattle.handover.proofs.Kept.{rows-decide, not-derived}
 use Rattle.handover.proofs.Places.{new-lies}
 use Rattle.handover.proofs.descent.derived.Statement.{statement}
 use Rattle.handover.proofs.descent.derived.Tie as tie
@@ -23,7 +23,7 @@ abbrev μ-loop : tie.MeasureT-loop
 μ-loop table rows s count i₀ i = count - i
 
 old-count-requires : tie.Need-old-count-requires Inv-loop μ-loop
-old-count-requires c κs = let start = c .before .before in omega (arith, new-lies (start .args .rows) (now (start .args .s)) (start .pre .0))
+old-count-requires c κs = let start = c .before .before in omega (arith, new-lies (start .pre .0))
 
 loop-holds : tie.Need-loop-holds Inv-loop μ-loop
 unfolding each
@@ -35,7 +35,7 @@ roll-derived-requires c κs =
     let s = now (start .args .s) in
     let i = c .before .loop .i in
     let h : i < old-count s = omega (arith, c .before .before .old-count .ensures) in
-    (start .pre .0, start .pre .1, h, each-gives (roll-held s) (old-count s) i h (start .pre .2))
+    (start .pre .0, start .pre .1, h, each-of (roll-held s) (old-count s) i h (start .pre .2))
 
 returns : tie.Need-returns Inv-loop μ-loop
 returns c =

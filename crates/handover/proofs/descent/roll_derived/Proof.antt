@@ -3,7 +3,7 @@ use mathlib.Core.Path.{_≡_, sym, ap, _∙_}
 use mathlib.Core.Bool.{true, false}
 use denote.Ref.{now}
 use borrow.Author.Needs.{needs}
-use Rattle.rows.specs.Table.{each}
+use Rattle.rows.specs.Table.{each, rows-fit}
 use Rattle.rows.proofs.Tables.{fit-length, fit-count}
 use Rattle.roll.specs.Roll.{Roll}
 use Rattle.rules.specs.Derivation.{no-more, roll-of, roll-derived}
@@ -13,10 +13,20 @@ use Rattle.handover.proofs.Readings.{read-is, read-fits}
 use Rattle.handover.proofs.descent.roll_derived.Statement.{statement}
 use Rattle.handover.proofs.descent.roll_derived.Tie as tie
 
+abbrev start : tie.After-read-roll → tie.Start
+start c = c .before .before .before .before .before
+
+-- the roll that is read fits, and is that of the old entry
+fit : (c : tie.After-read-roll) → rows-fit (c .read-roll .result .count) (c .read-roll .last .1 .0) ≡ true
+fit c = read-fits _ (c .before .before .old-roll .ensures) (start c .pre .3) (c .read-roll .ensures)
+
+is :
+    (c : tie.After-read-roll)
+    → _≡_ {A = Roll} (record { count = c .read-roll .result .count; rows = c .read-roll .last .1 .0 }) (roll-of (now (start c .args .s)) (start c .args .i))
+is c = read-is _ (c .before .before .old-roll .ensures) (start c .pre .3) (c .read-roll .ensures)
+
 old-roll-requires : tie.Need-old-roll-requires
-old-roll-requires c κs =
-    let start = c .before .before in
-    (old-lies (start .args .rows) (now (start .args .s)) (start .pre .0) (start .args .i) (start .pre .2), start .pre .0 .short)
+old-roll-requires c κs = let start = c .before .before in (old-lies (start .pre .0) (start .args .i) (start .pre .2), start .pre .0 .short)
 
 read-roll-requires : tie.Need-read-roll-requires
 read-roll-requires c κs = search needs
@@ -25,46 +35,36 @@ cast-size : tie.Need-cast-size
 cast-size c = search needs
 
 slice-aggregate-no-more : tie.Need-slice-aggregate-no-more
-slice-aggregate-no-more c =
-    let start = c .before .before .before .before .before .before .before in
-    sym (fit-length _ _ (read-fits _ _ _ (c .before .before .read-roll .result .answer) (c .before .before .read-roll .result .count) (c .before .before .read-roll .last .1 .0) (c .before .before .before .before .old-roll .ensures) (start .pre .3) (c .before .before .read-roll .ensures)))
+slice-aggregate-no-more c = sym (fit-length _ _ (fit (c .before .before)))
 
 no-more-requires : tie.Need-no-more-requires
-no-more-requires c κs =
-    let start = c .before .before .before .before .before .before .before in
-    let fit = read-fits _ _ _ (c .before .before .read-roll .result .answer) (c .before .before .read-roll .result .count) (c .before .before .read-roll .last .1 .0) (c .before .before .before .before .old-roll .ensures) (start .pre .3) (c .before .before .read-roll .ensures) in
-    (fit-count _ _ fit, fit-length _ _ fit)
+no-more-requires c κs = let f = fit (c .before .before) in (fit-count _ _ f, fit-length _ _ f)
 
 slice-aggregate-rows-derived : tie.Need-slice-aggregate-rows-derived
-slice-aggregate-rows-derived c =
-    let start = c .before .before .before .before .before .before .before .before .before .before in
-    sym (fit-length _ _ (read-fits _ _ _ (c .before .before .before .before .before .read-roll .result .answer) (c .before .before .before .before .before .read-roll .result .count) (c .before .before .before .before .before .read-roll .last .1 .0) (c .before .before .before .before .before .before .before .old-roll .ensures) (start .pre .3) (c .before .before .before .before .before .read-roll .ensures)))
+slice-aggregate-rows-derived c = sym (fit-length _ _ (fit (c .before .before .before .before .before)))
 
 rows-derived-requires : tie.Need-rows-derived-requires
 rows-derived-requires c κs =
-    let start = c .before .before .before .before .before .before .before .before .before .before in
-    (start .pre .0, start .pre .1, fit-length _ _ (read-fits _ _ _ (c .before .before .before .before .before .read-roll .result .answer) (c .before .before .before .before .before .read-roll .result .count) (c .before .before .before .before .before .read-roll .last .1 .0) (c .before .before .before .before .before .before .before .old-roll .ensures) (start .pre .3) (c .before .before .before .before .before .read-roll .ensures)), start .pre .2)
+    let k = c .before .before .before .before .before .before .before .before .before .before .pre in
+    (k .0, k .1, fit-length _ _ (fit (c .before .before .before .before .before)), k .2)
 
 returns : tie.Need-returns
 unfolding roll-derived
 returns c =
-    let start = c .before .before .before .before .before .before .before .before .before .before .before in
-    let a = start .args in
+    let a = c .before .before .before .before .before .before .before .before .before .before .before .args in
     let s = now (a .s) in
     let ours : Roll = record { count = a .rows; rows = now (a .table) } in
-    let read = read-is _ _ _ (c .before .before .before .before .before .before .read-roll .result .answer) (c .before .before .before .before .before .before .read-roll .result .count) (c .before .before .before .before .before .before .read-roll .last .1 .0) (c .before .before .before .before .before .before .before .before .old-roll .ensures) (start .pre .3) (c .before .before .before .before .before .before .read-roll .ensures) in
-    let no : no-more ours (roll-of s (a .i)) ≡ true = sym (ap (no-more ours) read) ∙ sym (c .before .before .before .no-more .ensures) ∙ c .before .before .if1 .taken in
-    rw no (c .rows-derived .ensures ∙ ap (λ (old : Roll). each (led ours old s (a .i)) (a .rows)) read)
+    let no : no-more ours (roll-of s (a .i)) ≡ true =
+    sym (ap (no-more ours) (is (c .before .before .before .before .before .before))) ∙ sym (c .before .before .before .no-more .ensures) ∙ c .before .before .if1 .taken in
+    rw no (c .rows-derived .ensures ∙ ap (λ (old : Roll). each (led ours old s (a .i)) (a .rows)) (is (c .before .before .before .before .before .before)))
 
 returns-2 : tie.Need-returns-2
 unfolding roll-derived
 returns-2 c =
-    let start = c .before .before .before .before .before .before .before .before .before in
-    let a = start .args in
-    let s = now (a .s) in
+    let a = c .before .before .before .before .before .before .before .before .before .args in
     let ours : Roll = record { count = a .rows; rows = now (a .table) } in
-    let read = read-is _ _ _ (c .before .before .before .before .read-roll .result .answer) (c .before .before .before .before .read-roll .result .count) (c .before .before .before .before .read-roll .last .1 .0) (c .before .before .before .before .before .before .old-roll .ensures) (start .pre .3) (c .before .before .before .before .read-roll .ensures) in
-    let no : no-more ours (roll-of s (a .i)) ≡ false = sym (ap (no-more ours) read) ∙ sym (c .before .no-more .ensures) ∙ c .if1 .left in
+    let no : no-more ours (roll-of (now (a .s)) (a .i)) ≡ false =
+    sym (ap (no-more ours) (is (c .before .before .before .before))) ∙ sym (c .before .no-more .ensures) ∙ c .if1 .left in
     rw no
 
 pub roll-derived-spec : {M : Type 1} → statement M

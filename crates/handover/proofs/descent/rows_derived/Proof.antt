@@ -38,7 +38,7 @@ list-at-requires c κs =
     let a = start .args in
     let s = now (a .s) in
     let h : a .i ≤ old-count s = omega (arith, start .pre .3) in
-    (list-begins (a .rows) s (start .pre .0) (a .rows * a .i) (mul-le-mul-left (a .rows) h), start .pre .0 .short)
+    (list-begins (start .pre .0) (a .rows * a .i) (mul-le-mul-left (a .rows) h), start .pre .0 .short)
 
 loop-holds : tie.Need-loop-holds Inv-loop μ-loop
 unfolding each
@@ -53,7 +53,7 @@ next-list-requires c κs =
     let s = now (a .s) in
     let l = c .before .loop in
     let below = list-below (a .rows) (a .i) (old-count s) (l .r) (start .pre .3) (omega arith) in
-    (omega (arith, l .inv .1, list-lies (a .rows) s (start .pre .0) (list-of (a .rows) (a .i) (l .r)) below), start .pre .0 .short)
+    (omega (arith, l .inv .1, list-lies (start .pre .0) (list-of (a .rows) (a .i) (l .r)) below), start .pre .0 .short)
 
 add-row-derived : tie.Need-add-row-derived Inv-loop μ-loop
 add-row-derived c =
@@ -62,7 +62,7 @@ add-row-derived c =
     let s = now (a .s) in
     let l = c .before .before .loop in
     let below = list-below (a .rows) (a .i) (old-count s) (l .r) (start .pre .3) (omega arith) in
-    omega (arith, l .inv .1, start .pre .0 .short, list-lies (a .rows) s (start .pre .0) (list-of (a .rows) (a .i) (l .r)) below)
+    omega (arith, l .inv .1, start .pre .0 .short, list-lies (start .pre .0) (list-of (a .rows) (a .i) (l .r)) below)
 
 sub-row-derived : tie.Need-sub-row-derived Inv-loop μ-loop
 sub-row-derived c = omega (arith, c .next-list .ensures)
@@ -78,7 +78,7 @@ part-row-derived-end c =
     let l = c .before .before .loop in
     let j : ℕ = list-of (a .rows) (a .i) (l .r) in
     let below : j < a .rows * old-count s = list-below (a .rows) (a .i) (old-count s) (l .r) (start .pre .3) (omega arith) in
-    omega (arith, list-step s j (l .at) _ (l .inv .1) (c .next-list .ensures), list-begins (a .rows) s (start .pre .0) (j + 1) (omega arith))
+    omega (arith, list-step s j (l .at) _ (l .inv .1) (c .next-list .ensures), list-begins (start .pre .0) (j + 1) (omega arith))
 
 row-derived-requires : tie.Need-row-derived-requires Inv-loop μ-loop
 row-derived-requires c κs =
@@ -98,7 +98,7 @@ returns c =
     let one : c .before .row-derived .result ≡ led ours old s (a .i) (l .r) =
     c .before .row-derived .ensures (a .rows)
     ∙ ap (λ (d : List ℕ). row-derived ours old (l .r) d (length d / 32)) (digests-part s j (ap (λ (k : ℕ). k + 2) (l .inv .1)) (list-step s j (l .at) _ (l .inv .1) (c .before .before .before .next-list .ensures)))
-    ∙ ap (row-derived ours old (l .r) (digests s j)) (digests-count s j (list-lies (a .rows) s (start .pre .0) j below)) in
+    ∙ ap (row-derived ours old (l .r) (digests s j)) (digests-count s j (list-lies (start .pre .0) j below)) in
     sym (each-fails (led ours old s (a .i)) (a .rows) (l .r) (omega arith) (sym one ∙ not-true _ (c .if1 .taken)))
 
 add-r : tie.Need-add-r Inv-loop μ-loop
@@ -120,7 +120,7 @@ loop-again c =
     let one : c .before .row-derived .result ≡ led ours old s (a .i) (l .r) =
     c .before .row-derived .ensures (a .rows)
     ∙ ap (λ (d : List ℕ). row-derived ours old (l .r) d (length d / 32)) (digests-part s j (ap (λ (k : ℕ). k + 2) (l .inv .1)) (list-step s j (l .at) _ (l .inv .1) (c .before .before .before .next-list .ensures)))
-    ∙ ap (row-derived ours old (l .r) (digests s j)) (digests-count s j (list-lies (a .rows) s (start .pre .0) j below)) in
+    ∙ ap (row-derived ours old (l .r) (digests s j)) (digests-count s j (list-lies (start .pre .0) j below)) in
     let next : j + 1 ≡ list-of (a .rows) (a .i) (l .r + 1) = omega arith in
     (omega arith, list-step s j (l .at) _ (l .inv .1) (c .before .before .before .next-list .ensures) ∙ ap (list-at s) next, each-next (led ours old s (a .i)) (l .r) (l .inv .2) (sym one ∙ not-false _ (c .if1 .left)))
 

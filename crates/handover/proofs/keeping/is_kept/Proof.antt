@@ -1,7 +1,7 @@
 -- `handover::keeping::is_kept` meets its contract. Assumes nothing.
 use mathlib.Core.Path.{_≡_, refl, sym, ap, _∙_}
 use mathlib.Core.Bool.{false}
-use Prim.Native.Nat.{_≤_, _<_, _-_, _*_}
+use Prim.Native.Nat.{_≤_, _<_, _-_}
 use native.Mathlib.Omega.{arith}
 use denote.Ref.{now}
 use borrow.Author.Tests.{eq-eqb, ne-eqb}
@@ -20,7 +20,7 @@ abbrev μ-loop : tie.MeasureT-loop
 μ-loop s rows r count i₀ i = count - i
 
 old-count-requires : tie.Need-old-count-requires Inv-loop μ-loop
-old-count-requires c κs = let start = c .before in omega (arith, new-lies (start .args .rows) (now (start .args .s)) (start .pre .0))
+old-count-requires c κs = let start = c .before in omega (arith, new-lies (start .pre .0))
 
 loop-holds : tie.Need-loop-holds Inv-loop μ-loop
 unfolding some
@@ -45,7 +45,7 @@ list-at-requires c κs =
     let s = now (a .s) in
     let l = c .before .loop in
     let below = list-below (a .rows) (l .i) (old-count s) (a .r) (omega (arith, c .before .before .old-count .ensures)) (start .pre .1) in
-    (list-begins (a .rows) s (start .pre .0) (list-of (a .rows) (l .i) (a .r)) (omega (arith, below)), start .pre .0 .short)
+    (list-begins (start .pre .0) (list-of (a .rows) (l .i) (a .r)) (omega (arith, below)), start .pre .0 .short)
 
 added-at-requires : tie.Need-added-at-requires Inv-loop μ-loop
 added-at-requires c κs =
@@ -54,7 +54,7 @@ added-at-requires c κs =
     let s = now (a .s) in
     let l = c .before .before .loop in
     let below = list-below (a .rows) (l .i) (old-count s) (a .r) (omega (arith, c .before .before .before .old-count .ensures)) (start .pre .1) in
-    omega (arith, c .list-at .ensures, list-lies (a .rows) s (start .pre .0) (list-of (a .rows) (l .i) (a .r)) below)
+    omega (arith, c .list-at .ensures, list-lies (start .pre .0) (list-of (a .rows) (l .i) (a .r)) below)
 
 returns : tie.Need-returns Inv-loop μ-loop
 returns c =
