@@ -55,11 +55,12 @@ rowed size k label r there = go (sought k label) refl there
     go Absent p e = let z : _≡_ {A = Bool} true false = e in let y : _≡_ {A = ℕ} 0 1 = cc in absurd (omega arith)
 
 pub record Makeable (k : Lent) (label : List ℕ) : Type 0 where
+  pub room : receipt-size ≤ length (k .area)
   pub was : k .head .status ≡ active
   pub fit : rows-fit (k .head .count) (k .table) ≡ true
   pub labelled : all-zero label ≡ false
   pub new : sought k label ≡ Absent
-  pub room : k .head .count < most-rows
+  pub few : k .head .count < most-rows
 
 absent-so : (f : Found) → not (is-absent f) ≡ false → f ≡ Absent
 absent-so (At i) e = let z : _≡_ {A = Bool} true false = e in cc
@@ -74,7 +75,14 @@ makeable k label e =
     let c = passes (eqb (k .head .count) most-rows) table-full _ (eqb-false 13 0 refl) (b .1) in
     let fit : rows-fit (k .head .count) (k .table) ≡ true = sound-rows (k .head) (k .table) (r .0 .sounds) in
     let full : (k .head .count ≡ most-rows → ⊥) = eqb-false (k .head .count) most-rows (c .0) in
-    record { was = r .0 .acts; fit = fit; labelled = a .0; new = absent-so (sought k label) (b .0); room = omega (arith, fit-count (k .head .count) (k .table) fit) }
+    record {
+      room = r .0 .room;
+      was = r .0 .acts;
+      fit = fit;
+      labelled = a .0;
+      new = absent-so (sought k label) (b .0);
+      few = omega (arith, fit-count (k .head .count) (k .table) fit);
+    }
 
 pub record Appendable (k : Lent) (label : List ℕ) : Type 0 where
   pub has : Rowed k label

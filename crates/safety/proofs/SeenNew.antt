@@ -48,13 +48,13 @@ module _ (Hashes : List ℕ → Type 0) (Said : List ℕ → Statement → Type 
         let nonzero : not (all-zero label) ≡ true = ap not (m .labelled) in
         let s : Signed left receipt-size word =
         new-signed (k .head) whole label no-digest (sized .long) refl left refl refl nonzero refl
-        (widened-shows (k .head .count) (k .table) label place (m .fit) (m .room) most (sized .long) (m .new)) in
+        (widened-shows (k .head .count) (k .table) label place (m .fit) (m .few) most (sized .long) (m .new)) in
         seen-by (g .leaves) (ap (map cut-statement) (g .signs) ∙ ap (λ (t : List ℕ). cut-statement t ∷ []) (alone-in area word receipt-size (s .long)))
         (notes (record {
           was = m .was;
           is = m .was;
           stays = record { identity = refl; own = refl; previous = refl };
-          grows = widened-grows (k .head .count) (k .table) label place (m .fit) (m .room) most (sized .long) (m .new);
+          grows = widened-grows (k .head .count) (k .table) label place (m .fit) (m .few) most (sized .long) (m .new);
           notes = notes-one left (cut-statement word) (s .shows);
         }))
 

@@ -15,7 +15,9 @@ use Rattle.rules.specs.Outcomes.{Lent, refusing, accepting}
 use Rattle.rules.specs.Table.{widened}
 use Rattle.rules.specs.New.{one-more, making}
 use Rattle.ledgers.proofs.Given.{made-length, refuses, accepts}
-use Rattle.ledgers.proofs.Makes.{Makeable, makeable, new-fits, smaller-most}
+use Rattle.rows.proofs.Tables.{fit-length}
+use Rattle.rules.proofs.Noted.{Makeable, makeable}
+use Rattle.ledgers.proofs.Makes.{new-fits, smaller-most}
 use Rattle.ledgers.proofs.making.new.Statement.{statement}
 use Rattle.ledgers.proofs.making.new.Tie as tie
 
@@ -56,14 +58,14 @@ count-smaller-requires : tie.Need-count-smaller-requires
 unfolding lent
 count-smaller-requires c κs =
     let m = can (c .before .before) in
-    (omega (arith, m .few), m .long)
+    (omega (arith, m .few), fit-length _ _ (m .fit))
 
 add-row-requires : tie.Need-add-row-requires
 unfolding lent
 add-row-requires c κs =
     let m = can (c .before .before .before .before) in
     let a = c .before .before .before .before .before .before .before .before .before .before .args in
-    (omega (arith, m .few, c .before .count-smaller .ensures, smaller-most (a .head .count) (now (a .table)) (a .label)), m .long)
+    (omega (arith, m .few, c .before .count-smaller .ensures, smaller-most (a .head .count) (now (a .table)) (a .label)), fit-length _ _ (m .fit))
 
 receipt-requires : tie.Need-receipt-requires
 receipt-requires c κs = search needs

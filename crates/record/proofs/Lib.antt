@@ -1,0 +1,2 @@
+-- The outcomes that Wake's contract allows.
+pub mod Outcomes
