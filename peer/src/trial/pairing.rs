@@ -1,0 +1,190 @@
+//! This file holds the comparison: one call on two parties over copies of the same data, and the tally of all of them.
+
+use super::call::{perform, Call, Lent, Reply};
+use super::lists::{place, FIRST_ON_RECORD, LAST_ON_RECORD, LISTS};
+use crate::party::Party;
+use crate::record::is_sound;
+use std::time::{Duration, Instant};
+
+/// At most so many differences and faults are printed in full.
+const PRINTED: u64 = 10;
+
+pub struct Tally {
+    pub calls: u64,
+    pub by_number: [u64; 256],
+    /// The same for each call, in the order of the lists.
+    pub by_call: [[u64; 256]; LISTS.len()],
+    pub differences: u64,
+    /// Properties of 01 that an answer broke, or numbers other than 01's order gives.
+    pub faults: u64,
+    /// Those faults that are two accepted verdicts with different tails.
+    pub demand_3: u64,
+    pub first_fault: Option<String>,
+}
+
+pub struct Pairing<'a> {
+    pub first: &'a dyn Party,
+    pub second: &'a dyn Party,
+    pub seed: u64,
+    pub tally: Tally,
+    /// Tests of broken rules print nothing.
+    pub quiet: bool,
+    progress: Option<Instant>,
+}
+
+impl<'a> Pairing<'a> {
+    pub fn new(first: &'a dyn Party, second: &'a dyn Party, seed: u64) -> Pairing<'a> {
+        let by_call = [[0; 256]; LISTS.len()];
+        let (by_number, first_fault) = ([0; 256], None);
+        let tally = Tally { calls: 0, by_number, by_call, differences: 0, faults: 0, demand_3: 0, first_fault };
+        Pairing { first, second, seed, tally, quiet: false, progress: None }
+    }
+
+    /// From now on a line each ten seconds.
+    pub fn show_progress(&mut self) {
+        self.progress = Some(Instant::now());
+    }
+
+    /// Runs the call on both parties; what is lent goes on as the first left it.
+    pub fn call(&mut self, lent: &mut Lent, call: &Call) -> Reply {
+        let before = lent.clone();
+        let mut other = lent.clone();
+        let reply = perform(self.first, lent, call);
+        let other_reply = perform(self.second, &mut other, call);
+        self.count(call, reply.number());
+        if reply != other_reply || *lent != other {
+            self.tally.differences += 1;
+            self.print_difference(call, &before, (&reply, lent), (&other_reply, &other));
+        }
+        self.hold_to_stays(call, &before, &reply, lent);
+        self.tell_progress();
+        reply
+    }
+
+    /// Counts the answer; a number that 01 doesn't list for the call is a fault.
+    fn count(&mut self, call: &Call, number: u8) {
+        self.tally.calls += 1;
+        self.tally.by_number[number as usize] += 1;
+        self.tally.by_call[place(call)][number as usize] += 1;
+        let (name, list) = LISTS[place(call)];
+        if number != 0 && !list.contains(&number) {
+            self.fault(format!("{name} answered {number}, which 01 doesn't list for it; call {}", brief(call)));
+        }
+    }
+
+    /// A call for which 01 names the number; another one is a fault even if both parties agree.
+    pub fn expect(&mut self, what: &str, lent: &mut Lent, call: &Call, number: u8) -> Reply {
+        let reply = self.call(lent, call);
+        if reply.number() != number {
+            self.fault(format!("{what}: 01 gives {number}, the answer is {}; call {}", reply.number(), brief(call)));
+        }
+        reply
+    }
+
+    pub fn fault(&mut self, text: String) {
+        self.tally.faults += 1;
+        if !self.quiet && self.tally.faults <= PRINTED {
+            println!("FAULT (seed {}): {text}", self.seed);
+        }
+        self.tally.first_fault.get_or_insert(text);
+    }
+
+    pub fn ask(&mut self, holds: bool, what: &str) {
+        if !holds {
+            self.fault(format!("this does not hold: {what}"));
+        }
+    }
+
+    /// "A refusal … changes nothing lent"; "these are the first of the output area, and the rest of it stays".
+    fn hold_to_stays(&mut self, call: &Call, before: &Lent, reply: &Reply, after: &Lent) {
+        let written = reply.written();
+        if reply.number() != 0 && before != after {
+            self.fault(format!("refusal {} changed what was lent; call {}", reply.number(), brief(call)));
+        }
+        if written > after.area.len() || before.area[written..] != after.area[written..] {
+            self.fault(format!("bytes after the {written} written changed; call {}", brief(call)));
+        }
+        let on_record = place(call) >= FIRST_ON_RECORD && place(call) <= LAST_ON_RECORD;
+        if on_record && reply.number() == 0 && !is_sound(&after.head, &after.table) {
+            self.fault(format!("an accepted call left a record not sound; call {}", brief(call)));
+        }
+    }
+
+    fn print_difference(&self, call: &Call, before: &Lent, first: (&Reply, &Lent), second: (&Reply, &Lent)) {
+        if self.quiet || self.tally.differences > PRINTED {
+            return;
+        }
+        println!("DIFFERENCE (seed {}, call {}): {}", self.seed, self.tally.calls, brief(call));
+        println!("  before: {} area {}", record(before), before.area.len());
+        for (party, (reply, after)) in [(self.first, first), (self.second, second)] {
+            println!("  {}: {}", party.name(), shortened(&format!("{reply:?}"), 600));
+            println!("    after: {}", record(after));
+        }
+        println!("  {}", first_other_place(first.1, second.1));
+    }
+
+    fn tell_progress(&mut self) {
+        if let Some(told) = self.progress {
+            if self.tally.calls % 256 == 0 && told.elapsed() >= Duration::from_secs(10) {
+                println!(
+                    "… {} calls, {} differences, {} faults",
+                    self.tally.calls, self.tally.differences, self.tally.faults
+                );
+                self.progress = Some(Instant::now());
+            }
+        }
+    }
+}
+
+/// The call's text, shortened where arguments are long.
+pub fn brief(call: &Call) -> String {
+    shortened(&hex_lists(&format!("{call:?}")), 1_500)
+}
+
+/// Number lists of the debug form as hexadecimal strings, which are easier to read and to use again.
+fn hex_lists(text: &str) -> String {
+    let mut out = String::new();
+    let mut rest = text;
+    while let Some(open) = rest.find('[') {
+        out.push_str(&rest[..open]);
+        let close = rest[open..].find(']').map_or(rest.len(), |at| open + at);
+        let numbers: Option<Vec<u8>> = rest[open + 1..close].split(", ").map(|part| part.parse().ok()).collect();
+        match numbers {
+            Some(bytes) => {
+                out.push_str(&bytes.iter().map(|byte| format!("{byte:02x}")).collect::<String>());
+                rest = &rest[(close + 1).min(rest.len())..];
+            }
+            None => {
+                out.push('[');
+                rest = &rest[open + 1..];
+            }
+        }
+    }
+    out + rest
+}
+
+fn shortened(text: &str, most: usize) -> String {
+    match text.char_indices().nth(most) {
+        Some((end, _)) => format!("{}… ({} bytes of text)", &text[..end], text.len()),
+        None => text.to_string(),
+    }
+}
+
+fn record(lent: &Lent) -> String {
+    let used = lent.table.iter().filter(|row| **row != crate::row::Row::ZERO).count();
+    let head = hex_lists(&format!("{:?}", lent.head));
+    format!("{head} table of {} rows, {used} not zero", lent.table.len())
+}
+
+fn first_other_place(first: &Lent, second: &Lent) -> String {
+    if first.head != second.head {
+        return "the heads differ".to_string();
+    }
+    if let Some(row) = first.table.iter().zip(&second.table).position(|(a, b)| a != b) {
+        return format!("row {row} differs: {:?} and {:?}", first.table[row], second.table[row]);
+    }
+    if let Some(byte) = first.area.iter().zip(&second.area).position(|(a, b)| a != b) {
+        return format!("area byte {byte} differs: {} and {}", first.area[byte], second.area[byte]);
+    }
+    "head, table and area agree".to_string()
+}

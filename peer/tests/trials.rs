@@ -1,0 +1,122 @@
+//! This file tests that the peer passes every trial, that each broken rule is caught, and that the comparison sees differences.
+
+use peer::broken::{Broken, Slip, SLIPS};
+use peer::party::{Party, Peer};
+use peer::trial::lists::LISTS;
+use peer::trial::pairing::Pairing;
+use peer::trial::prng::Prng;
+use peer::trial::{history, hostile, layouts, numbers, order, readings, records};
+use std::time::Instant;
+
+fn quiet<'a>(first: &'a dyn Party, second: &'a dyn Party, seed: u64) -> Pairing<'a> {
+    let mut pairing = Pairing::new(first, second, seed);
+    pairing.quiet = true;
+    pairing
+}
+
+fn assert_clean(pairing: &Pairing) {
+    assert_eq!(pairing.tally.first_fault, None, "seed {}", pairing.seed);
+    assert_eq!(pairing.tally.differences, 0);
+}
+
+#[test]
+fn peer_answers_01s_numbers_in_01s_order() {
+    let mut prng = Prng::new(11);
+    let mut pairing = quiet(&Peer, &Peer, 11);
+    numbers::run(&mut pairing, &mut prng);
+    readings::run(&mut pairing, &mut prng);
+    order::run(&mut pairing, &mut prng);
+    for _ in 0..5_000 {
+        order::run_any(&mut pairing, &mut prng);
+    }
+    assert_clean(&pairing);
+}
+
+#[test]
+fn every_refusal_of_every_call_is_met() {
+    let mut pairing = quiet(&Peer, &Peer, 12);
+    order::run(&mut pairing, &mut Prng::new(12));
+    for ((name, list), met) in LISTS.iter().zip(pairing.tally.by_call) {
+        for number in *list {
+            assert!(met[*number as usize] > 0, "{number} of {name} was never met");
+        }
+    }
+}
+
+#[test]
+fn peer_keeps_layouts_and_records() {
+    let mut prng = Prng::new(13);
+    let mut pairing = quiet(&Peer, &Peer, 13);
+    layouts::run(&mut pairing, &mut prng);
+    for _ in 0..3_000 {
+        layouts::run_any(&mut pairing, &mut prng);
+        records::run_any(&mut pairing, &mut prng);
+    }
+    assert_clean(&pairing);
+}
+
+#[test]
+fn sound_rules_survive_hostile_histories() {
+    let mut prng = Prng::new(14);
+    let mut pairing = quiet(&Peer, &Peer, 14);
+    hostile::run(&mut pairing, &mut prng);
+    for _ in 0..600 {
+        history::run_any(&mut pairing, &mut prng);
+    }
+    assert_clean(&pairing);
+    let activated = pairing.tally.by_call[14][0];
+    let accepted = pairing.tally.by_call[16][0];
+    assert!(activated > 100 && accepted > 1_000, "{activated} activations, {accepted} accepted verdicts");
+}
+
+#[test]
+fn aimed_histories_catch_each_slip() {
+    for slip in SLIPS {
+        let broken = Broken(slip);
+        let mut pairing = quiet(&broken, &broken, 15);
+        hostile::run(&mut pairing, &mut Prng::new(15));
+        assert!(pairing.tally.faults > 0, "{slip:?} was not caught");
+        println!("{slip:?}: {}", pairing.tally.first_fault.unwrap());
+    }
+}
+
+/// By chance alone, without a history aimed at the slip, within a bound of calls.
+#[test]
+fn histories_by_chance_catch_each_slip() {
+    for slip in SLIPS {
+        let broken = Broken(slip);
+        let start = Instant::now();
+        let mut prng = Prng::new(16);
+        let mut pairing = quiet(&broken, &broken, 16);
+        while pairing.tally.faults == 0 && pairing.tally.calls < 400_000 {
+            history::run_any(&mut pairing, &mut prng);
+        }
+        let seconds = start.elapsed().as_secs_f64();
+        println!("{slip:?}: {} calls, {seconds:.2} s, {:?}", pairing.tally.calls, pairing.tally.first_fault);
+        assert!(pairing.tally.faults > 0, "{slip:?} was not caught");
+    }
+}
+
+/// Demand 3 itself, and not only the request to an erased key, is broken by each slip but the nonce's.
+#[test]
+fn aimed_histories_break_demand_3() {
+    for slip in SLIPS.into_iter().filter(|slip| *slip != Slip::NonceIgnored) {
+        let broken = Broken(slip);
+        let mut pairing = Pairing::new(&broken, &broken, 17);
+        pairing.quiet = true;
+        hostile::run(&mut pairing, &mut Prng::new(17));
+        assert!(pairing.tally.demand_3 > 0, "{slip:?} never broke demand 3");
+    }
+}
+
+#[test]
+fn comparison_sees_each_slip_as_a_difference() {
+    for slip in SLIPS {
+        let broken = Broken(slip);
+        let mut pairing = quiet(&Peer, &broken, 18);
+        let mut prng = Prng::new(18);
+        numbers::run(&mut pairing, &mut prng);
+        order::run(&mut pairing, &mut prng);
+        assert!(pairing.tally.differences > 0, "{slip:?} made no difference");
+    }
+}
