@@ -57,7 +57,7 @@ pub record Laid (rows : ℕ) (s : List ℕ) : Type 0 where
   pub ends : list-at s (rows * old-count s) ≤ length s
   pub short : length s ≤ longest-bundle
 
--- what a keeper has been shown where nothing of that refuses
+-- what both calls have seen where nothing that both ask refuses
 pub record Shown (head : Head) (table previous own s : List ℕ) : Type 0 where
   pub rows : rows-fit (head .count) table ≡ true
   pub before : holds rack-layout previous ≡ true
@@ -69,10 +69,11 @@ pub record Shown (head : Head) (table previous own s : List ℕ) : Type 0 where
 abbrev pub led : Roll → Roll → List ℕ → ℕ → ℕ → Bool
 led ours old s i r = row-derived ours old r (digests s (list-of (ours .count) i r)) (added s (list-of (ours .count) i r))
 
--- some old entry lists no digests for row r, of so many rows
+-- old entry i lists no digests for row r, of so many rows
 abbrev pub none-added : List ℕ → ℕ → ℕ → ℕ → Bool
 none-added s rows r i = eqb (added s (list-of rows i r)) 0
 
+-- some old entry does
 abbrev pub kept : List ℕ → ℕ → ℕ → Bool
 kept s rows r = some (none-added s rows r) (old-count s)
 
