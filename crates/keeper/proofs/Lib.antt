@@ -1,0 +1,3 @@
+-- Laws of the ledger table as rows.
+pub mod RowTrips
+pub mod RowTypes

@@ -1,0 +1,2 @@
+-- The ledger table as rows.
+pub mod Flat
