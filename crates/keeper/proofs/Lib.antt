@@ -1,3 +1,6 @@
 -- Laws of the ledger table as rows.
 pub mod RowTrips
 pub mod RowTypes
+pub mod Filled
+pub mod RowsHeld
+pub mod Turns
