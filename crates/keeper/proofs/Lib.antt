@@ -4,3 +4,5 @@ pub mod RowTypes
 pub mod Filled
 pub mod RowsHeld
 pub mod Turns
+pub mod HeldRows
+pub mod KeptHeld

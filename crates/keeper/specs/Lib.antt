@@ -1,2 +1,3 @@
--- The ledger table as rows.
+-- The ledger table as rows, and what the calls leave in it.
 pub mod Flat
+pub mod Held

@@ -149,19 +149,19 @@ module _ {M : Type 1} (𝓤 : URA M) (H : Heap 𝓤) (A : Atoms 𝓤) (W : Given
       let l : 0 < length ys = omega (arith, same) in
       qed W ((‵ (flft κ q) ⊛ ‵ ftrue) ∷ ‵ (owns (ShrSlice (named 0) κ rowT ∷ []) x at) ∷ []) ∵ enter ! (𝓣 .C) (𝓣 .Λ) code.function (sliceVal (b, o) (length ys) ∷ []) _ $
       alloc1 ! (λ l₀. alloc1 ! (λ l₁. alloc1 ! (λ l₂. alloc1 ! (λ l₃. alloc1 ! (λ l₄. alloc1 ! (λ l₅. alloc1 ! (λ l₆. alloc1 ! (λ l₇. alloc1 ! (λ l₈. alloc1 ! (λ l₉. alloc1 ! (λ l₁₀. alloc1 ! (λ l₁₁. alloc1 ! (λ l₁₂. alloc1 ! (λ l₁₃. alloc0 ! $ params1 ! $
-        pass1 ! (init ! 24 refl (tt, (tt, (record { fits = gn .0 }, tt)))) $ pass0 ! $
-        assigns ! (bin ! (load ! (from ! (fld ! refl (stop !))) (look-in ! 24 (sub ! 0 refl (whole !)))) (lit ! tt) tt) (from ! (stop !)) (init ! 16 refl (tt, tt)) $ rewrite ! 16 (λ (p : ℕ). ‵ (fat fullShare tyPtr l₅ 0 (vptr b p))) (zero-add o) refl $
-        move ! (29 ∷ []) $ fsplit ! $ fsplit ! $ move ! (1 ∷ []) $ fsplit ! $ move ! (32 ∷ []) $ split ! $ move ! (3 ∷ 0 ∷ []) $
-        looks-slice ! tt rowT (Is rowT) (shows 𝓤 H A rowT) vals row-tells (row-copy 𝓤 H A W) ys b o (λ q′. elem-out ! rowT (Is rowT) (shows 𝓤 H A rowT) vals row-tells q′ ys 0 no-row b o l (λ g.
-        assigns ! (of-opd ! (load ! (from ! (hop ! (look ! 25 refl) (stop !))) (look-raw ! 0 refl))) (from ! (stop !)) (init ! 23 refl (row-typed 𝓤 H A W (getD ys 0 no-row) g)) $
-        assigns ! (of-opd ! (load ! (from ! (stop !)) (look ! 23 refl))) (from ! (stop !)) (init ! 31 refl (row-typed 𝓤 H A W (getD ys 0 no-row) g)) $
-        assigns ! (rep ! 63 (load ! (from ! (stop !)) (look ! 31 refl))) (from ! (stop !)) (init ! 29 refl (arr-typed 𝓤 H A W 63 start (repeated 63 (getD ys 0 no-row) g))) $
-        rewrite ! 29 (λ (us : List Val). ‵ (fat fullShare arr l₃ 0 (arrayVal us))) (repeated-val 63 (getD ys 0 no-row)) refl $
-        assigns ! (of-opd ! (lit ! tt)) (from ! (stop !)) (init ! 27 refl (tt, record { fits = lit< tt })) $
-        elem-back ! rowT q′ ys 0 no-row (vals (getD ys 0 no-row)) b o l $
-        move ! (27 ∷ []) $ use1 W (‵ (row rowT fullShare start l₃ 0)) (lays 𝓤 H A W 63 start l₃ 0 (repeated 63 (getD ys 0 no-row) g)) $ rewrite ! 0 (λ (xs : List Row). ‵ (row rowT fullShare xs l₃ 0)) (filled-none ys start) refl $
-        forget ! 29 refl $ forget ! 24 refl $ forget ! 22 refl $ keep ! (1 ∷ 2 ∷ 0 ∷ 26 ∷ 20 ∷ 18 ∷ 16 ∷ 14 ∷ 12 ∷ 10 ∷ 8 ∷ 33 ∷ 31 ∷ 29 ∷ 24 ∷ 22 ∷ 3 ∷ 5 ∷ 6 ∷ 34 ∷ 32 ∷ 30 ∷ 28 ∷ 27 ∷ 25 ∷ 23 ∷ 21 ∷ 19 ∷ 17 ∷ 15 ∷ 13 ∷ 11 ∷ 9 ∷ []) $
-        first ! $ blocks ! $ loops ! 𝓣 Nearer Nearer-wf (At 𝓣 gn same q′ l₀ l₁ l₂ l₃ l₄ l₅ l₆ l₇ l₈ l₉ l₁₀ l₁₁ l₁₂ l₁₃) (turns 𝓣 gn same q′ l₀ l₁ l₂ l₃ l₄ l₅ l₆ l₇ l₈ l₉ l₁₀ l₁₁ l₁₂ l₁₃) (0, zero-le)))))))))))))))))
+      pass1 ! (init ! 24 refl (tt, (tt, (record { fits = gn .0 }, tt)))) $ pass0 ! $
+      assigns ! (bin ! (load ! (from ! (fld ! refl (stop !))) (look-in ! 24 (sub ! 0 refl (whole !)))) (lit ! tt) tt) (from ! (stop !)) (init ! 16 refl (tt, tt)) $ rewrite ! 16 (λ (p : ℕ). ‵ (fat fullShare tyPtr l₅ 0 (vptr b p))) (zero-add o) refl $
+      move ! (29 ∷ []) $ fsplit ! $ fsplit ! $ move ! (1 ∷ []) $ fsplit ! $ move ! (32 ∷ []) $ split ! $ move ! (3 ∷ 0 ∷ []) $
+      looks-slice ! tt rowT (Is rowT) (shows 𝓤 H A rowT) vals row-tells (row-copy 𝓤 H A W) ys b o (λ q′. elem-out ! rowT (Is rowT) (shows 𝓤 H A rowT) vals row-tells q′ ys 0 no-row b o l (λ g.
+      assigns ! (of-opd ! (load ! (from ! (hop ! (look ! 25 refl) (stop !))) (look-raw ! 0 refl))) (from ! (stop !)) (init ! 23 refl (row-typed 𝓤 H A W (getD ys 0 no-row) g)) $
+      assigns ! (of-opd ! (load ! (from ! (stop !)) (look ! 23 refl))) (from ! (stop !)) (init ! 31 refl (row-typed 𝓤 H A W (getD ys 0 no-row) g)) $
+      assigns ! (rep ! 63 (load ! (from ! (stop !)) (look ! 31 refl))) (from ! (stop !)) (init ! 29 refl (arr-typed 𝓤 H A W 63 start (repeated 63 (getD ys 0 no-row) g))) $
+      rewrite ! 29 (λ (us : List Val). ‵ (fat fullShare arr l₃ 0 (arrayVal us))) (repeated-val 63 (getD ys 0 no-row)) refl $
+      assigns ! (of-opd ! (lit ! tt)) (from ! (stop !)) (init ! 27 refl (tt, record { fits = lit< tt })) $
+      elem-back ! rowT q′ ys 0 no-row (vals (getD ys 0 no-row)) b o l $
+      move ! (27 ∷ []) $ use1 W (‵ (row rowT fullShare start l₃ 0)) (lays 𝓤 H A W 63 start l₃ 0 (repeated 63 (getD ys 0 no-row) g)) $ rewrite ! 0 (λ (xs : List Row). ‵ (row rowT fullShare xs l₃ 0)) (filled-none ys start) refl $
+      forget ! 29 refl $ forget ! 24 refl $ forget ! 22 refl $ keep ! (1 ∷ 2 ∷ 0 ∷ 26 ∷ 20 ∷ 18 ∷ 16 ∷ 14 ∷ 12 ∷ 10 ∷ 8 ∷ 33 ∷ 31 ∷ 29 ∷ 24 ∷ 22 ∷ 3 ∷ 5 ∷ 6 ∷ 34 ∷ 32 ∷ 30 ∷ 28 ∷ 27 ∷ 25 ∷ 23 ∷ 21 ∷ 19 ∷ 17 ∷ 15 ∷ 13 ∷ 11 ∷ 9 ∷ []) $
+      first ! $ blocks ! $ loops ! 𝓣 Nearer Nearer-wf (At 𝓣 gn same q′ l₀ l₁ l₂ l₃ l₄ l₅ l₆ l₇ l₈ l₉ l₁₀ l₁₁ l₁₂ l₁₃) (turns 𝓣 gn same q′ l₀ l₁ l₂ l₃ l₄ l₅ l₆ l₇ l₈ l₉ l₁₀ l₁₁ l₁₂ l₁₃) (0, zero-le)))))))))))))))))
 
 module _ {M : Type 1} (𝓤 : URA M) (H : Heap 𝓤) (A : Atoms 𝓤) (W : Given 𝓤 H A) (at-mem : Memory → SProp 𝓤) (run : Routine → Fun 𝓤) where
   rows-in-walks : (𝓣 : Tables 𝓤 H) → Walks 𝓤 H A rows-in.ended stayed (WpFn 𝓤 H (𝓣 .C) (𝓣 .Λ) code.function) (rows-in.clauses 𝓤 H A at-mem run)

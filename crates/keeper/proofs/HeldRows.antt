@@ -1,0 +1,33 @@
+-- Laws of what a call leaves with the table as rows. Assumes nothing.
+use mathlib.Core.Path.{_≡_, refl, sym, ap, _∙_}
+use mathlib.Core.Bool.{cond}
+use mathlib.Core.List.{List}
+use Prim.Native.Nat.{ℕ}
+use borrow.Author.Tests.{eq-eqb, ne-eqb}
+use lib.ListN.{length}
+use Rattle.refusals.specs.{record-not-sound}
+use Rattle.rows.specs.Sizes.{most-rows}
+use Rattle.rules.specs.declared.Head.{Head}
+use Rattle.rules.specs.declared.Told.{Told}
+use Rattle.rules.specs.Outcomes.{Lent, Outcome, outcome, refusing}
+use Rattle.keeper.specs.declared.Row.{Row}
+use Rattle.keeper.specs.Flat.{flattened, rows-of}
+use Rattle.keeper.specs.Held.{Held, as-rows, over-rows}
+
+pub held-as-rows : (t : Told) (table area : List ℕ) (rows : List Row) (o : Outcome) → outcome t table area ≡ o → rows ≡ rows-of most-rows table
+    → _≡_ {A = Held} (record { answer = t .answer; head = t .head; rows = rows; area = area }) (as-rows o)
+unfolding as-rows
+held-as-rows t table area rows o e p =
+    ap (λ (l : List Row). record { answer = t .answer; head = t .head; rows = l; area = area }) p ∙ ap as-rows e
+
+module _ (rule : Lent → Outcome) (head : Head) (rows : List Row) (area : List ℕ) where
+  -- a table of 63 rows
+  pub over-63 : length rows ≡ most-rows → as-rows (rule (record { head = head; table = flattened rows; area = area })) ≡ over-rows rule head rows area
+  unfolding over-rows
+  over-63 e = rw (eq-eqb (length rows) most-rows e)
+
+  -- another one
+  pub over-other : (length rows ≡ most-rows → ⊥)
+      → _≡_ {A = Held} (record { answer = refusing record-not-sound 0; head = head; rows = rows; area = area }) (over-rows rule head rows area)
+  unfolding over-rows
+  over-other n = rw (ne-eqb (length rows) most-rows n)
