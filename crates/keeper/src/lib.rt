@@ -6,8 +6,6 @@ mod waking;
 
 pub use flattening::flat;
 pub use flattening::rows_of;
-pub use lent::rows_in;
-pub use lent::rows_out;
 use rows::LABEL;
 use rows::MOST;
 use rows::TAIL;
