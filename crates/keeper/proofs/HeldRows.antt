@@ -1,18 +1,21 @@
 -- Laws of what a call leaves with the table as rows. Assumes nothing.
-use mathlib.Core.Path.{_≡_, refl, sym, ap, _∙_}
-use mathlib.Core.Bool.{cond}
+use mathlib.Core.Path.{_≡_, ap, _∙_}
 use mathlib.Core.List.{List}
-use Prim.Native.Nat.{ℕ}
+use Prim.Native.Nat.{ℕ, _*_}
+use native.Mathlib.Omega.{arith}
 use borrow.Author.Tests.{eq-eqb, ne-eqb}
 use lib.ListN.{length}
 use Rattle.refusals.specs.{record-not-sound}
-use Rattle.rows.specs.Sizes.{most-rows}
+use Rattle.refusals.specs.Order.{first}
+use Rattle.rows.specs.Sizes.{most-rows, row-bytes, table-bytes}
 use Rattle.rules.specs.declared.Head.{Head}
 use Rattle.rules.specs.declared.Told.{Told}
-use Rattle.rules.specs.Outcomes.{Lent, Outcome, outcome, refusing}
+use Rattle.rules.specs.Outcomes.{Lent, Outcome, outcome, refusing, refused, unless}
+use Rattle.rules.specs.Wake.{waking}
 use Rattle.keeper.specs.declared.Row.{Row}
 use Rattle.keeper.specs.Flat.{flattened, rows-of}
 use Rattle.keeper.specs.Held.{Held, as-rows, over-rows}
+use Rattle.keeper.proofs.RowTrips.{AllTyped, flattened-length}
 
 pub held-as-rows : (t : Told) (table area : List ℕ) (rows : List Row) (o : Outcome) → outcome t table area ≡ o → rows ≡ rows-of most-rows table
     → _≡_ {A = Held} (record { answer = t .answer; head = t .head; rows = rows; area = area }) (as-rows o)
@@ -31,3 +34,14 @@ module _ (rule : Lent → Outcome) (head : Head) (rows : List Row) (area : List 
       → _≡_ {A = Held} (record { answer = refusing record-not-sound 0; head = head; rows = rows; area = area }) (over-rows rule head rows area)
   unfolding over-rows
   over-other n = rw (ne-eqb (length rows) most-rows n)
+
+-- what the rule of Wake says of the bytes of a table of another length: so `over-rows` says there what the rule says
+pub waking-other :
+    (head : Head) (rows : List Row) (key area : List ℕ) → AllTyped rows → (length rows ≡ most-rows → ⊥)
+    → waking (record { head = head; table = flattened rows; area = area }) key
+    ≡ record { answer = refusing record-not-sound 0; left = record { head = head; table = flattened rows; area = area } }
+unfolding first refused unless waking
+waking-other head rows key area ts n =
+    let l : length (flattened rows) ≡ row-bytes * length rows = flattened-length ts in
+    let m : length (flattened rows) ≡ table-bytes → ⊥ = λ e. n (omega arith) in
+    rw (ne-eqb (length (flattened rows)) table-bytes m)
