@@ -1,11 +1,8 @@
 -- What a call on rows by value leaves, as a walk has it: the machine values of its parts, and what they tell. Assumes nothing.
-use mathlib.Core.Path.{_≡_, refl}
-use Prim.Native.Nat.{ℕ}
 use mathlib.Core.List.{List, [], _∷_, map}
 use mir.Val.{Val}
-use lib.ListN.{length, length-map}
+use lib.ListN.{length-map}
 use mathlib.Core.Path.{sym, _∙_}
-use denote.RattleType.{RattleType}
 use denote.Shadow.{shadow}
 use denote.Laws.{Is}
 use denote.Array.{each, arrayVal, Array}

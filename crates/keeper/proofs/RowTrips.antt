@@ -5,13 +5,13 @@ use native.Mathlib.Nat.{mul-suc, not-suc-le-zero, le-of-suc-le-suc}
 use native.Mathlib.Omega.{arith}
 use native.Mathlib.Numerals.{add-one}
 use mathlib.Core.List.{List, [], _∷_, _++_, append-assoc, map, flatten}
-use lib.ListN.{length, getD, take, drop, set, length-append, length-map, length-take, length-drop}
-use lib.Seq.{take-suc, take-suc-set, take-at, drop-at, take-all, take-add, drop-drop, length-take-le}
+use lib.ListN.{length, getD, take, drop, set, length-append, length-map, length-drop}
+use lib.Seq.{take-suc, take-suc-set, take-at, drop-at, take-all, take-add, length-take-le}
 use Rattle.octets.specs.Numbers.{number-of, bytes-of}
 use Rattle.octets.specs.Strings.{put, pieces}
 use Rattle.octets.proofs.Numbers.{bytes-length}
 use Rattle.octets.proofs.Exact.{Octets, octets-take, octets-drop, number-bytes, bytes-number}
-use Rattle.octets.proofs.Pieces.{Each, none, more, each-length, flatten-append, flatten-one, flatten-pieces, pieces-flatten, pieces-each, pieces-snoc, pieces-length}
+use Rattle.octets.proofs.Pieces.{Each, none, more, each-length, flatten-append, flatten-one, flatten-pieces, pieces-flatten, pieces-snoc}
 use Rattle.octets.proofs.Puts.{take-put, put-length}
 use Rattle.rows.specs.Sizes.{label-bytes, tail-bytes, height-bytes, row-bytes}
 use Rattle.keeper.specs.declared.Row.{Row}
@@ -48,7 +48,8 @@ cut-string r t =
     let f : drop (label-bytes + tail-bytes) ((r .label ++ r .tail) ++ n) ≡ n =
     drop-at (r .label ++ r .tail) n (label-bytes + tail-bytes) (length-append (r .label) (r .tail) ∙ ap₂ (λ (x y : ℕ). x + y) (t .label) (t .tail)) in
     let h : number-of (take height-bytes (drop (label-bytes + tail-bytes) ((r .label ++ r .tail) ++ n))) ≡ r .height =
-    ap (λ (l : List ℕ). number-of (take height-bytes l)) f ∙ ap number-of (take-all height-bytes n (omega (arith, bytes-length height-bytes (r .height)))) ∙ number-bytes height-bytes (r .height) (t .height) in
+    ap (λ (l : List ℕ). number-of (take height-bytes l)) f ∙ ap number-of (take-all height-bytes n (omega (arith, bytes-length height-bytes (r .height)))) ∙ number-bytes height-bytes (r .height)
+        (t .height) in
     same-row (take label-bytes w) (take tail-bytes (drop label-bytes w)) (number-of (take height-bytes (drop (label-bytes + tail-bytes) w))) r a b h
 
 parts : (s : List ℕ) (n : ℕ) → take n s ++ drop n s ≡ s
@@ -63,7 +64,8 @@ string-cut s n o =
     let t : List ℕ = drop (label-bytes + tail-bytes) s in
     let l : length t ≡ height-bytes = length-drop (label-bytes + tail-bytes) s ∙ omega arith in
     let h : bytes-of height-bytes (number-of (take height-bytes t)) ≡ t =
-    ap (λ (x : List ℕ). bytes-of height-bytes (number-of x)) (take-all height-bytes t (omega arith)) ∙ ap (λ (k : ℕ). bytes-of k (number-of t)) (sym l) ∙ bytes-number t (octets-drop (label-bytes + tail-bytes) s o) in
+    ap (λ (x : List ℕ). bytes-of height-bytes (number-of x)) (take-all height-bytes t (omega arith)) ∙ ap (λ (k : ℕ). bytes-of k (number-of t)) (sym l) ∙ bytes-number t (octets-drop (label-bytes
+        + tail-bytes) s o) in
     ap (λ (x : List ℕ). (take label-bytes s ++ take tail-bytes (drop label-bytes s)) ++ x) h
     ∙ ap (λ (x : List ℕ). x ++ t) (sym (take-add label-bytes tail-bytes s)) ∙ parts s (label-bytes + tail-bytes)
 

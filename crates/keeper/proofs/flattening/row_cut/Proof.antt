@@ -1,6 +1,5 @@
 -- `keeper::flattening::row_cut` meets its contract. Assumes nothing.
 use mathlib.Core.Path.{_∙_}
-use mathlib.Core.List.{List}
 use native.Mathlib.Omega.{arith}
 use lib.ListN.{length-take, length-drop}
 use Rattle.octets.proofs.Puts.{put-all}

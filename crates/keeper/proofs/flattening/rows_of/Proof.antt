@@ -1,12 +1,11 @@
 -- `keeper::flattening::rows_of` meets its contract. Assumes nothing.
 use mathlib.Core.Path.{_≡_, refl, sym, ap, _∙_}
-use Prim.Native.Nat.{ℕ, _≤_, _-_, _*_}
+use Prim.Native.Nat.{ℕ, _≤_, _-_}
 use native.Mathlib.Omega.{arith}
 use lib.ListN.{length, take, length-set}
 use lib.Seq.{take-all}
-use borrow.Author.Needs.{needs}
 use denote.Ref.{now}
-use Rattle.rows.specs.Sizes.{most-rows, row-bytes, table-bytes}
+use Rattle.rows.specs.Sizes.{most-rows}
 use Rattle.keeper.specs.Flat.{rows-of}
 use Rattle.keeper.proofs.RowTrips.{rows-next, rows-none}
 use Rattle.keeper.proofs.flattening.rows_of.Statement.{statement}

@@ -98,7 +98,11 @@ module _ {M : Type 1} (𝓤 : URA M) (H : Heap 𝓤) (A : Atoms 𝓤) (W : Given
 
     -- i rows are stored; what no turn touches stands behind
     abbrev At : Upto → List (Item 𝓤)
-    At i = ‵ (row rowT fullShare (filled tb ys (i .0)) b o) ∷ ‵ (row rowT fullShare tb l₃ 0) ∷ ‵ (fat fullShare word l₄ 0 (vint w64 (i .0))) ∷ ‵ (froom tyBool l₅ 0) ∷ ‵ (froom word l₆ 0) ∷ ‵ (froom tyPtr l₇ 0) ∷ ‵ (froom tyPtr l₈ 0) ∷ ‵ (froom R′.mir l₉ 0) ∷ ‵ (froom word l₁₀ 0) ∷ ‵ (froom tyPtr l₁₁ 0) ∷ ‵ (froom tyUnit l₀ 0) ∷ ‵ (fat fullShare slice l₁ 0 (sliceVal (b, o) (length ys))) ∷ ‵ (froom arr l₂ 0) ∷ ‵ (fobor κ q (Held rowT (length ys) b o γ)) ∷ ‵ (fobs γ (codedHoleys rowT .code (heres rowT ys))) ∷ ‵ (fauth γ (codedHoleys rowT .code (heres rowT ys))) ∷ ‵ (fdies tyUnit l₀) ∷ ‵ (fdies slice l₁) ∷ ‵ (fdies arr l₂) ∷ ‵ (fdies arr l₃) ∷ ‵ (fdies word l₄) ∷ ‵ (fdies tyBool l₅) ∷ ‵ (fdies word l₆) ∷ ‵ (fdies tyPtr l₇) ∷ ‵ (fdies tyPtr l₈) ∷ ‵ (fdies R′.mir l₉) ∷ ‵ (fdies word l₁₀) ∷ ‵ (fdies tyPtr l₁₁) ∷ []
+    At i = ‵ (row rowT fullShare (filled tb ys (i .0)) b o) ∷ ‵ (row rowT fullShare tb l₃ 0) ∷ ‵ (fat fullShare word l₄ 0 (vint w64 (i .0))) ∷ ‵ (froom tyBool l₅ 0) ∷ ‵ (froom word l₆ 0) ∷ ‵
+        (froom tyPtr l₇ 0) ∷ ‵ (froom tyPtr l₈ 0) ∷ ‵ (froom R′.mir l₉ 0) ∷ ‵ (froom word l₁₀ 0) ∷ ‵ (froom tyPtr l₁₁ 0) ∷ ‵ (froom tyUnit l₀ 0) ∷ ‵ (fat fullShare slice l₁ 0 (sliceVal (b, o)
+        (length ys))) ∷ ‵ (froom arr l₂ 0) ∷ ‵ (fobor κ q (Held rowT (length ys) b o γ)) ∷ ‵ (fobs γ (codedHoleys rowT .code (heres rowT ys))) ∷ ‵ (fauth γ (codedHoleys rowT .code (heres rowT
+        ys))) ∷ ‵ (fdies tyUnit l₀) ∷ ‵ (fdies slice l₁) ∷ ‵ (fdies arr l₂) ∷ ‵ (fdies arr l₃) ∷ ‵ (fdies word l₄) ∷ ‵ (fdies tyBool l₅) ∷ ‵ (fdies word l₆) ∷ ‵ (fdies tyPtr l₇) ∷ ‵ (fdies tyPtr
+        l₈) ∷ ‵ (fdies R′.mir l₉) ∷ ‵ (fdies word l₁₀) ∷ ‵ (fdies tyPtr l₁₁) ∷ []
 
     abbrev Turned : Upto → Out → SProp 𝓤
     Turned i = afterTurn 𝓤 H (Below 𝓤 H A Nearer At i) (afterBlock 𝓤 H (afterSeq 𝓤 H (Wp 𝓤 H (𝓣 .C) (𝓣 .Λ) En body.t-4 (atReturn 𝓤 H En Post)) (atReturn 𝓤 H En Post)))
@@ -106,28 +110,35 @@ module _ {M : Type 1} (𝓤 : URA M) (H : Heap 𝓤) (A : Atoms 𝓤) (W : Given
     more : (i : Upto) → i .0 < 63 → i .0 < length tb → i .0 < length (filled tb ys (i .0)) → Sq W (At i) (runs (𝓣 .C) (𝓣 .Λ) En body.turn-1 (anyQ (Turned i)))
     unfolding afterTurn
     more i h below within =
-        assigns ! (bin ! (load ! (from ! (stop !)) (look ! 2 refl)) (lit ! tt) tt) (from ! (stop !)) (init ! 3 refl (tt, tt)) $ rewrite ! 3 (λ (z : Bool). ‵ (fat fullShare tyBool l₅ 0 (vbool z))) (lt-ltb (i .0) 63 h) refl $
+        assigns ! (bin ! (load ! (from ! (stop !)) (look ! 2 refl)) (lit ! tt) tt) (from ! (stop !)) (init ! 3 refl (tt, tt)) $
+        rewrite ! 3 (λ (z : Bool). ‵ (fat fullShare tyBool l₅ 0 (vbool z))) (lt-ltb (i .0) 63 h) refl $
         stays ! (load ! (from ! (stop !)) (look ! 3 refl)) $
         assigns ! (bin ! (load ! (from ! (stop !)) (look ! 2 refl)) (lit ! tt) (record { fits = times-fits (i .0) h })) (from ! (stop !)) (init ! 4 refl (tt, record { fits = times-fits (i .0) h })) $
         assigns ! (addr ! (from ! (stop !))) (from ! (stop !)) (init ! 5 refl (tt, tt)) $
-        assigns ! (bin ! (load ! (from ! (stop !)) (look ! 5 refl)) (load ! (from ! (stop !)) (look ! 4 refl)) tt) (from ! (stop !)) (init ! 6 refl (tt, tt)) $ rewrite ! 6 (λ (k : ℕ). ‵ (fat fullShare tyPtr l₈ 0 (vptr l₃ k))) (sym (place-is 56 0 (i .0))) refl $
+        assigns ! (bin ! (load ! (from ! (stop !)) (look ! 5 refl)) (load ! (from ! (stop !)) (look ! 4 refl)) tt) (from ! (stop !)) (init ! 6 refl (tt, tt)) $
+        rewrite ! 6 (λ (k : ℕ). ‵ (fat fullShare tyPtr l₈ 0 (vptr l₃ k))) (sym (place-is 56 0 (i .0))) refl $
         move ! (1 ∷ []) $ elem-out ! rowT (Is rowT) (shows 𝓤 H A rowT) vals row-tells fullShare tb (i .0) no-row l₃ 0 below (λ g.
         assigns ! (of-opd ! (load ! (from ! (hop ! (look ! 8 refl) (stop !))) (look-raw ! 0 refl))) (from ! (stop !)) (init ! 9 refl (row-typed 𝓤 H A W (getD tb (i .0) no-row) g)) $
         elem-back ! rowT fullShare tb (i .0) no-row (vals (getD tb (i .0) no-row)) l₃ 0 below $
         assigns ! (bin ! (load ! (from ! (stop !)) (look ! 2 refl)) (lit ! tt) (record { fits = times-fits (i .0) h })) (from ! (stop !)) (init ! 8 refl (tt, record { fits = times-fits (i .0) h })) $
-        assigns ! (bin ! (load ! (from ! (fld ! refl (stop !))) (look-in ! 11 (sub ! 0 refl (whole !)))) (load ! (from ! (stop !)) (look ! 8 refl)) tt) (from ! (stop !)) (init ! 9 refl (tt, tt)) $ rewrite ! 9 (λ (k : ℕ). ‵ (fat fullShare tyPtr l₁₁ 0 (vptr b k))) (sym (place-is 56 o (i .0))) refl $
+        assigns ! (bin ! (load ! (from ! (fld ! refl (stop !))) (look-in ! 11 (sub ! 0 refl (whole !)))) (load ! (from ! (stop !)) (look ! 8 refl)) tt) (from ! (stop !)) (init ! 9 refl (tt, tt))
+        $ rewrite ! 9 (λ (k : ℕ). ‵ (fat fullShare tyPtr l₁₁ 0 (vptr b k))) (sym (place-is 56 o (i .0))) refl $
         move ! (1 ∷ []) $ elem-out ! rowT (Is rowT) (shows 𝓤 H A rowT) vals row-tells fullShare (filled tb ys (i .0)) (i .0) no-row b o within (λ _.
         assigns ! (of-opd ! (load ! (from ! (stop !)) (look ! 9 refl))) (from ! (hop ! (look ! 11 refl) (stop !))) (store-raw ! 0 refl (row-typed 𝓤 H A W (getD tb (i .0) no-row) g)) $
-        move ! (1 ∷ []) $ drop ! $ owned ! rowT (Is rowT) (row-makes 𝓤 H A W) (getD tb (i .0) no-row) (vals (getD tb (i .0) no-row)) g $ move ! (1 ∷ 0 ∷ 2 ∷ []) $ elem-put ! rowT fullShare (filled tb ys (i .0)) (i .0) (getD tb (i .0) no-row) (vals (getD tb (i .0) no-row)) b o within $
+        move ! (1 ∷ []) $ drop ! $ owned ! rowT (Is rowT) (row-makes 𝓤 H A W) (getD tb (i .0) no-row) (vals (getD tb (i .0) no-row)) g $ move ! (1 ∷ 0 ∷ 2 ∷ []) $
+        elem-put ! rowT fullShare (filled tb ys (i .0)) (i .0) (getD tb (i .0) no-row) (vals (getD tb (i .0) no-row)) b o within $
         rewrite ! 0 (λ (xs : List Row). ‵ (row rowT fullShare xs b o)) (filled-next tb ys sized (i .0) no-row below) refl $
-        assigns-last ! (bin ! (load ! (from ! (stop !)) (look ! 2 refl)) (lit ! tt) (record { fits = next-fits (i .0) h })) (from ! (stop !)) (store ! 2 refl (tt, record { fits = next-fits (i .0) h })) $
-        forget ! 3 refl $ forget ! 4 refl $ forget ! 5 refl $ forget ! 6 refl $ forget ! 7 refl $ forget ! 8 refl $ forget ! 9 refl $ keep ! (0 ∷ 1 ∷ 2 ∷ 3 ∷ 4 ∷ 5 ∷ 6 ∷ 7 ∷ 8 ∷ 9 ∷ 10 ∷ 11 ∷ 12 ∷ 13 ∷ 14 ∷ 15 ∷ 16 ∷ 17 ∷ 18 ∷ 19 ∷ 20 ∷ 21 ∷ 22 ∷ 23 ∷ 24 ∷ 25 ∷ 26 ∷ 27 ∷ []) $
+        assigns-last ! (bin ! (load ! (from ! (stop !)) (look ! 2 refl)) (lit ! tt) (record { fits = next-fits (i .0) h })) (from ! (stop !)) (store ! 2 refl (tt, record { fits = next-fits (i
+            .0) h })) $
+        forget ! 3 refl $ forget ! 4 refl $ forget ! 5 refl $ forget ! 6 refl $ forget ! 7 refl $ forget ! 8 refl $ forget ! 9 refl $
+        keep ! (0 ∷ 1 ∷ 2 ∷ 3 ∷ 4 ∷ 5 ∷ 6 ∷ 7 ∷ 8 ∷ 9 ∷ 10 ∷ 11 ∷ 12 ∷ 13 ∷ 14 ∷ 15 ∷ 16 ∷ 17 ∷ 18 ∷ 19 ∷ 20 ∷ 21 ∷ 22 ∷ 23 ∷ 24 ∷ 25 ∷ 26 ∷ 27 ∷ []) $
         again ! Nearer At i (i .0 + 1, add-one-le h) (add-one-dec 63 (i .0) h)))
 
     ends : (i : Upto) → 63 ≤ i .0 → i .0 ≡ length tb → Sq W (At i) (runs (𝓣 .C) (𝓣 .Λ) En body.turn-1 (anyQ (Turned i)))
     unfolding afterTurn
     ends i h all =
-        assigns ! (bin ! (load ! (from ! (stop !)) (look ! 2 refl)) (lit ! tt) tt) (from ! (stop !)) (init ! 3 refl (tt, tt)) $ rewrite ! 3 (λ (z : Bool). ‵ (fat fullShare tyBool l₅ 0 (vbool z))) (le-ltb (i .0) 63 h) refl $
+        assigns ! (bin ! (load ! (from ! (stop !)) (look ! 2 refl)) (lit ! tt) tt) (from ! (stop !)) (init ! 3 refl (tt, tt)) $
+        rewrite ! 3 (λ (z : Bool). ‵ (fat fullShare tyBool l₅ 0 (vbool z))) (le-ltb (i .0) 63 h) refl $
         leaves-loop ! (load ! (from ! (stop !)) (look ! 3 refl)) $ exec ! (𝓣 .C) (𝓣 .Λ) En body.t-4 (atRet En Post) $
         rewrite ! 0 (λ (xs : List Row). ‵ (row rowT fullShare xs b o)) (filled-all tb ys sized (i .0) all) refl $
         move ! (0 ∷ 13 ∷ 14 ∷ 15 ∷ []) $ closes-slice ! tt rowT ys tb sized b o $
@@ -150,7 +161,8 @@ module _ {M : Type 1} (𝓤 : URA M) (H : Heap 𝓤) (A : Atoms 𝓤) (W : Given
       → ent 𝓤 (onEntry 𝓤 H A rows-out.signature (κ, tt) (q, tt) x at) (WpFn 𝓤 H (𝓣 .C) (𝓣 .Λ) code.function (sliceVal (b, o) (length ys) ∷ arr-val tb ∷ []) Post)
   walk 𝓣 gn p same =
       qed W ((‵ (flft κ q) ⊛ ‵ ftrue) ∷ ‵ (owns (MutSlice (named 0) κ rowT ∷ Array rowT 63 ∷ []) x at) ∷ []) ∵ enter ! (𝓣 .C) (𝓣 .Λ) code.function (sliceVal (b, o) (length ys) ∷ arr-val tb ∷ []) _ $
-      alloc1 ! (λ l₀. alloc1 ! (λ l₁. alloc1 ! (λ l₂. alloc1 ! (λ l₃. alloc1 ! (λ l₄. alloc1 ! (λ l₅. alloc1 ! (λ l₆. alloc1 ! (λ l₇. alloc1 ! (λ l₈. alloc1 ! (λ l₉. alloc1 ! (λ l₁₀. alloc1 ! (λ l₁₁. alloc0 ! $ params1 ! $
+      alloc1 ! (λ l₀. alloc1 ! (λ l₁. alloc1 ! (λ l₂. alloc1 ! (λ l₃. alloc1 ! (λ l₄. alloc1 ! (λ l₅. alloc1 ! (λ l₆. alloc1 ! (λ l₇. alloc1 ! (λ l₈. alloc1 ! (λ l₉. alloc1 ! (λ l₁₀. alloc1 ! (λ
+          l₁₁. alloc0 ! $ params1 ! $
       pass1 ! (init ! 20 refl (tt, (tt, (record { fits = gn .0 }, tt)))) $ pass1 ! (init ! 18 refl (arr-typed 𝓤 H A W 63 tb p)) $ pass0 ! $
       assigns ! (of-opd ! (load ! (from ! (stop !)) (look ! 18 refl))) (from ! (stop !)) (init ! 16 refl (arr-typed 𝓤 H A W 63 tb p)) $
       assigns ! (of-opd ! (lit ! tt)) (from ! (stop !)) (init ! 14 refl (tt, record { fits = lit< tt })) $
@@ -169,7 +181,8 @@ module _ {M : Type 1} (𝓤 : URA M) (H : Heap 𝓤) (A : Atoms 𝓤) (W : Given
 rows-out-meets : {M : Type 1} (𝓤 : URA M) (H : Heap 𝓤) (A : Atoms 𝓤) → Given 𝓤 H A → (mem : Memory → SProp 𝓤) (run : Routine → Fun 𝓤) (𝓣 : Tables 𝓤 H)
     → Meets 𝓤 H A rows-out.signature (WpFn 𝓤 H (𝓣 .C) (𝓣 .Λ) code.function) (rows-out.spec 𝓤 H A mem run)
 rows-out-meets 𝓤 H A W mem run 𝓣 =
-    walk-meets 𝓤 H A rows-out.ended stayed W (goes-slice 𝓤 H A W 1 0 tt (plain (λ _. rowT)), (goes-dropped 𝓤 H A W 1 (arrayOf (plain (λ _. rowT)) 63) kept (λ κs x f. refl), tt)) (rows-out.clauses 𝓤 H A mem run)
+    walk-meets 𝓤 H A rows-out.ended stayed W (goes-slice 𝓤 H A W 1 0 tt (plain (λ _. rowT)), (goes-dropped 𝓤 H A W 1 (arrayOf (plain (λ _. rowT)) 63) kept (λ κs x f. refl), tt))
+        (rows-out.clauses 𝓤 H A mem run)
     (WpFn 𝓤 H (𝓣 .C) (𝓣 .Λ) code.function) (WpFn-mono 𝓤 H (W .laws) 𝓣 code.function) (rows-out-walks 𝓤 H A W mem run 𝓣)
 
 pub rows-out-spec : {M : Type 1} → stated.statement M

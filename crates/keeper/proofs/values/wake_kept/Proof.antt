@@ -2,7 +2,6 @@
 use mathlib.Core.Path.{ap, _∙_}
 use mathlib.Core.List.{List, []}
 use Prim.Native.Nat.{ℕ}
-use Rattle.rules.specs.Outcomes.{Lent}
 use Rattle.rules.specs.Wake.{waking}
 use Rattle.keeper.proofs.HeldRows.{held-as-rows}
 use borrow.Author.Needs.{needs}
@@ -25,7 +24,8 @@ returns : tie.Need-returns
 returns c =
     let a = c .before .before .before .before .before .before .before .before .args in
     held-as-rows (c .before .before .before .before .before .wake .result) _ [] _ _
-    (c .before .before .before .before .before .wake .ensures ∙ ap (λ (t : List ℕ). waking (record { head = a .head; table = t; area = [] }) (a .key)) (c .before .before .before .before .before .before .before .flat .ensures))
+    (c .before .before .before .before .before .wake .ensures ∙ ap (λ (t : List ℕ). waking (record { head = a .head; table = t; area = [] }) (a .key)) (c .before .before .before .before .before
+        .before .before .flat .ensures))
     (c .before .before .rows-of .ensures)
 
 pub wake-kept-spec : {M : Type 1} → statement M
