@@ -13,15 +13,18 @@ use Rattle.rules.specs.declared.Told.{Told}
 use Rattle.rules.specs.Outcomes.{Lent, Outcome, outcome, refusing, refused, unless}
 use Rattle.rules.specs.Wake.{waking}
 use Rattle.keeper.specs.declared.Row.{Row}
+use Rattle.keeper.specs.declared.Kept.{Kept}
 use Rattle.keeper.specs.Flat.{flattened, rows-of}
 use Rattle.keeper.specs.Held.{Held, as-rows, over-rows}
 use Rattle.keeper.proofs.RowTrips.{AllTyped, flattened-length}
 
-pub held-as-rows : (t : Told) (table area : List ℕ) (rows : List Row) (o : Outcome) → outcome t table area ≡ o → rows ≡ rows-of most-rows table
-    → _≡_ {A = Held} (record { answer = t .answer; head = t .head; rows = rows; area = area }) (as-rows o)
+-- what is kept of a call on flat bytes
+pub held-as-rows :
+    (k : Kept) (t : Told) (table area : List ℕ) (o : Outcome) → k ≡ record { answer = t .answer; head = t .head; rows = rows-of most-rows table } → outcome t table area ≡ o
+    → _≡_ {A = Held} (record { answer = k .answer; head = k .head; rows = k .rows; area = area }) (as-rows o)
 unfolding as-rows
-held-as-rows t table area rows o e p =
-    ap (λ (l : List Row). record { answer = t .answer; head = t .head; rows = l; area = area }) p ∙ ap as-rows e
+held-as-rows k t table area o p e =
+    ap (λ (l : Kept). record { answer = l .answer; head = l .head; rows = l .rows; area = area }) p ∙ ap as-rows e
 
 module _ (rule : Lent → Outcome) (head : Head) (rows : List Row) (area : List ℕ) where
   -- a table of 63 rows

@@ -49,7 +49,7 @@ cut-string r t =
     drop-at (r .label ++ r .tail) n (label-bytes + tail-bytes) (length-append (r .label) (r .tail) ∙ ap₂ (λ (x y : ℕ). x + y) (t .label) (t .tail)) in
     let h : number-of (take height-bytes (drop (label-bytes + tail-bytes) ((r .label ++ r .tail) ++ n))) ≡ r .height =
     ap (λ (l : List ℕ). number-of (take height-bytes l)) f ∙ ap number-of (take-all height-bytes n (omega (arith, bytes-length height-bytes (r .height)))) ∙ number-bytes height-bytes (r .height)
-        (t .height) in
+    (t .height) in
     same-row (take label-bytes w) (take tail-bytes (drop label-bytes w)) (number-of (take height-bytes (drop (label-bytes + tail-bytes) w))) r a b h
 
 parts : (s : List ℕ) (n : ℕ) → take n s ++ drop n s ≡ s
@@ -65,7 +65,7 @@ string-cut s n o =
     let l : length t ≡ height-bytes = length-drop (label-bytes + tail-bytes) s ∙ omega arith in
     let h : bytes-of height-bytes (number-of (take height-bytes t)) ≡ t =
     ap (λ (x : List ℕ). bytes-of height-bytes (number-of x)) (take-all height-bytes t (omega arith)) ∙ ap (λ (k : ℕ). bytes-of k (number-of t)) (sym l) ∙ bytes-number t (octets-drop (label-bytes
-        + tail-bytes) s o) in
+    + tail-bytes) s o) in
     ap (λ (x : List ℕ). (take label-bytes s ++ take tail-bytes (drop label-bytes s)) ++ x) h
     ∙ ap (λ (x : List ℕ). x ++ t) (sym (take-add label-bytes tail-bytes s)) ∙ parts s (label-bytes + tail-bytes)
 

@@ -1,5 +1,6 @@
 // The ledger table as rows that the caller lends, and the calls that update head and rows where they stand, over the core's flat bytes.
 mod flattening;
+mod ledger;
 mod lent;
 mod values;
 mod waking;
@@ -25,4 +26,12 @@ pub struct Kept {
     pub answer: Answer,
     pub head: Head,
     pub rows: [Row; MOST],
+}
+
+// What the calls on ledgers are asked; each reads what it needs.
+pub struct Asked {
+    pub label: [u8; LABEL],
+    pub entry: [u8; TAIL],
+    pub expected: u64,
+    pub nonce: [u8; LABEL],
 }

@@ -62,7 +62,7 @@ returns c =
     let k : length n ≡ 8 = bytes-length 8 (a .row .height) in
     c .before .before .put-number .ensures
     ∙ ap (λ (s : List ℕ). put s (at + 16 + 32) n) (c .before .before .before .before .before .before .copy-at2 .ensures ∙ ap (λ (s : List ℕ). put s (at + 16) m) (c .before .before .before
-        .before .before .before .before .before .before .before .before .copy-at .ensures)
+    .before .before .before .before .before .before .before .before .copy-at .ensures)
     ∙ put-put (now (a .bytes)) at l m (at + 16) (omega (arith, t .label)) (omega (arith, t .label, t .tail)))
     ∙ put-put (now (a .bytes)) at (l ++ m) n (at + 16 + 32) (omega (arith, t .label, t .tail, length-append l m)) (omega (arith, t .label, t .tail, length-append l m))
 

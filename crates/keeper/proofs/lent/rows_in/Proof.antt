@@ -128,8 +128,13 @@ module _ {M : Type 1} (𝓤 : URA M) (H : Heap 𝓤) (A : Atoms 𝓤) (W : Given
         move ! (1 ∷ []) $ drop ! $ owned ! rowT (Is rowT) (row-makes 𝓤 H A W) (getD ys (i .0) no-row) (vals (getD ys (i .0) no-row)) g $ move ! (1 ∷ 0 ∷ 2 ∷ []) $
         elem-put ! rowT fullShare (filled ys start (i .0)) (i .0) (getD ys (i .0) no-row) (vals (getD ys (i .0) no-row)) l₃ 0 within $
         rewrite ! 0 (λ (xs : List Row). ‵ (row rowT fullShare xs l₃ 0)) (filled-next ys start sized (i .0) no-row below) refl $
-        assigns-last ! (bin ! (load ! (from ! (stop !)) (look ! 3 refl)) (lit ! tt) (record { fits = next-fits (i .0) h })) (from ! (stop !)) (store ! 3 refl (tt, record { fits = next-fits (i
-            .0) h })) $
+        assigns-last ! (bin ! (load ! (from ! (stop !)) (look ! 3 refl)) (lit ! tt) (record { fits = next-fits (i .0) h })) (from ! (stop !)) (store ! 3 refl (
+          tt,
+          record {
+            fits = next-fits (i
+                .0) h;
+          },
+        )) $
         forget ! 4 refl $ forget ! 5 refl $ forget ! 6 refl $ forget ! 7 refl $ forget ! 8 refl $ forget ! 9 refl $ forget ! 10 refl $
         keep ! (1 ∷ 2 ∷ 0 ∷ 3 ∷ 4 ∷ 5 ∷ 6 ∷ 7 ∷ 8 ∷ 9 ∷ 10 ∷ 11 ∷ 12 ∷ 13 ∷ 14 ∷ 15 ∷ 16 ∷ 17 ∷ 18 ∷ 19 ∷ 20 ∷ 21 ∷ 22 ∷ 23 ∷ 24 ∷ 25 ∷ 26 ∷ 27 ∷ 28 ∷ 29 ∷ 30 ∷ 31 ∷ 32 ∷ []) $
         again ! Nearer At i (i .0 + 1, add-one-le h) (add-one-dec 63 (i .0) h)))
@@ -163,10 +168,10 @@ module _ {M : Type 1} (𝓤 : URA M) (H : Heap 𝓤) (A : Atoms 𝓤) (W : Given
       let l : 0 < length ys = omega (arith, same) in
       qed W ((‵ (flft κ q) ⊛ ‵ ftrue) ∷ ‵ (owns (ShrSlice (named 0) κ rowT ∷ []) x at) ∷ []) ∵ enter ! (𝓣 .C) (𝓣 .Λ) code.function (sliceVal (b, o) (length ys) ∷ []) _ $
       alloc1 ! (λ l₀. alloc1 ! (λ l₁. alloc1 ! (λ l₂. alloc1 ! (λ l₃. alloc1 ! (λ l₄. alloc1 ! (λ l₅. alloc1 ! (λ l₆. alloc1 ! (λ l₇. alloc1 ! (λ l₈. alloc1 ! (λ l₉. alloc1 ! (λ l₁₀. alloc1 ! (λ
-          l₁₁. alloc1 ! (λ l₁₂. alloc1 ! (λ l₁₃. alloc0 ! $ params1 ! $
+      l₁₁. alloc1 ! (λ l₁₂. alloc1 ! (λ l₁₃. alloc0 ! $ params1 ! $
       pass1 ! (init ! 24 refl (tt, (tt, (record { fits = gn .0 }, tt)))) $ pass0 ! $
       assigns ! (bin ! (load ! (from ! (fld ! refl (stop !))) (look-in ! 24 (sub ! 0 refl (whole !)))) (lit ! tt) tt) (from ! (stop !)) (init ! 16 refl (tt, tt)) $
-          rewrite ! 16 (λ (p : ℕ). ‵ (fat fullShare tyPtr l₅ 0 (vptr b p))) (zero-add o) refl $
+      rewrite ! 16 (λ (p : ℕ). ‵ (fat fullShare tyPtr l₅ 0 (vptr b p))) (zero-add o) refl $
       move ! (29 ∷ []) $ fsplit ! $ fsplit ! $ move ! (1 ∷ []) $ fsplit ! $ move ! (32 ∷ []) $ split ! $ move ! (3 ∷ 0 ∷ []) $
       looks-slice ! tt rowT (Is rowT) (shows 𝓤 H A rowT) vals row-tells (row-copy 𝓤 H A W) ys b o (λ q′. elem-out ! rowT (Is rowT) (shows 𝓤 H A rowT) vals row-tells q′ ys 0 no-row b o l (λ g.
       assigns ! (of-opd ! (load ! (from ! (hop ! (look ! 25 refl) (stop !))) (look-raw ! 0 refl))) (from ! (stop !)) (init ! 23 refl (row-typed 𝓤 H A W (getD ys 0 no-row) g)) $
@@ -176,16 +181,21 @@ module _ {M : Type 1} (𝓤 : URA M) (H : Heap 𝓤) (A : Atoms 𝓤) (W : Given
       assigns ! (of-opd ! (lit ! tt)) (from ! (stop !)) (init ! 27 refl (tt, record { fits = lit< tt })) $
       elem-back ! rowT q′ ys 0 no-row (vals (getD ys 0 no-row)) b o l $
       move ! (27 ∷ []) $ use1 W (‵ (row rowT fullShare start l₃ 0)) (lays 𝓤 H A W 63 start l₃ 0 (repeated 63 (getD ys 0 no-row) g)) $
-          rewrite ! 0 (λ (xs : List Row). ‵ (row rowT fullShare xs l₃ 0)) (filled-none ys start) refl $
+      rewrite ! 0 (λ (xs : List Row). ‵ (row rowT fullShare xs l₃ 0)) (filled-none ys start) refl $
       forget ! 29 refl $ forget ! 24 refl $ forget ! 22 refl $ keep ! (1 ∷ 2 ∷ 0 ∷ 26 ∷ 20 ∷ 18 ∷ 16 ∷ 14 ∷ 12 ∷ 10 ∷ 8 ∷ 33 ∷ 31 ∷ 29 ∷ 24 ∷ 22 ∷ 3 ∷ 5 ∷ 6 ∷ 34 ∷ 32 ∷ 30 ∷ 28 ∷ 27 ∷ 25 ∷ 23 ∷
-          21 ∷ 19 ∷ 17 ∷ 15 ∷ 13 ∷ 11 ∷ 9 ∷ []) $
-      first ! $ blocks ! $ loops ! 𝓣 Nearer Nearer-wf (At 𝓣 gn same q′ l₀ l₁ l₂ l₃ l₄ l₅ l₆ l₇ l₈ l₉ l₁₀ l₁₁ l₁₂ l₁₃) (turns 𝓣 gn same q′ l₀ l₁ l₂ l₃ l₄ l₅ l₆ l₇ l₈ l₉ l₁₀ l₁₁ l₁₂ l₁₃) (0,
-          zero-le)))))))))))))))))
+      21 ∷ 19 ∷ 17 ∷ 15 ∷ 13 ∷ 11 ∷ 9 ∷ []) $
+      first ! $ blocks ! $ loops ! 𝓣 Nearer Nearer-wf (At 𝓣 gn same q′ l₀ l₁ l₂ l₃ l₄ l₅ l₆ l₇ l₈ l₉ l₁₀ l₁₁ l₁₂ l₁₃) (turns 𝓣 gn same q′ l₀ l₁ l₂ l₃ l₄ l₅ l₆ l₇ l₈ l₉ l₁₀ l₁₁ l₁₂ l₁₃) (
+        0,
+        zero-le,
+      )))))))))))))))))
 
 module _ {M : Type 1} (𝓤 : URA M) (H : Heap 𝓤) (A : Atoms 𝓤) (W : Given 𝓤 H A) (at-mem : Memory → SProp 𝓤) (run : Routine → Fun 𝓤) where
   rows-in-walks : (𝓣 : Tables 𝓤 H) → Walks 𝓤 H A rows-in.ended stayed (WpFn 𝓤 H (𝓣 .C) (𝓣 .Λ) code.function) (rows-in.clauses 𝓤 H A at-mem run)
-  rows-in-walks 𝓣 = walked 𝓤 H A rows-in.ended stayed (rows-in.clauses 𝓤 H A at-mem run) (WpFn 𝓤 H (𝓣 .C) (𝓣 .Λ) code.function) (λ κs. (slice-vals, tt)) (λ κs. (shr-slice-tells (named 0) (κs .0)
-      rowT, tt))
+  rows-in-walks 𝓣 = walked 𝓤 H A rows-in.ended stayed (rows-in.clauses 𝓤 H A at-mem run) (WpFn 𝓤 H (𝓣 .C) (𝓣 .Λ) code.function) (λ κs. (slice-vals, tt)) (λ κs. (
+    shr-slice-tells (named 0) (κs .0)
+        rowT,
+    tt,
+  ))
       (λ κs qs bounds a g are. needs 𝓤 _ _ (walk 𝓤 H A W at-mem run (κs .0) (qs .0) (a .0 .ptr .0) (a .0 .ptr .1) (a .0 .name) (a .0 .now) 𝓣 (are .0 .0 .1)))
 
 rows-in-meets : {M : Type 1} (𝓤 : URA M) (H : Heap 𝓤) (A : Atoms 𝓤) → Given 𝓤 H A → (mem : Memory → SProp 𝓤) (run : Routine → Fun 𝓤) (𝓣 : Tables 𝓤 H)

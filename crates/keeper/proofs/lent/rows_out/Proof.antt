@@ -128,8 +128,13 @@ module _ {M : Type 1} (𝓤 : URA M) (H : Heap 𝓤) (A : Atoms 𝓤) (W : Given
         move ! (1 ∷ []) $ drop ! $ owned ! rowT (Is rowT) (row-makes 𝓤 H A W) (getD tb (i .0) no-row) (vals (getD tb (i .0) no-row)) g $ move ! (1 ∷ 0 ∷ 2 ∷ []) $
         elem-put ! rowT fullShare (filled tb ys (i .0)) (i .0) (getD tb (i .0) no-row) (vals (getD tb (i .0) no-row)) b o within $
         rewrite ! 0 (λ (xs : List Row). ‵ (row rowT fullShare xs b o)) (filled-next tb ys sized (i .0) no-row below) refl $
-        assigns-last ! (bin ! (load ! (from ! (stop !)) (look ! 2 refl)) (lit ! tt) (record { fits = next-fits (i .0) h })) (from ! (stop !)) (store ! 2 refl (tt, record { fits = next-fits (i
-            .0) h })) $
+        assigns-last ! (bin ! (load ! (from ! (stop !)) (look ! 2 refl)) (lit ! tt) (record { fits = next-fits (i .0) h })) (from ! (stop !)) (store ! 2 refl (
+          tt,
+          record {
+            fits = next-fits (i
+                .0) h;
+          },
+        )) $
         forget ! 3 refl $ forget ! 4 refl $ forget ! 5 refl $ forget ! 6 refl $ forget ! 7 refl $ forget ! 8 refl $ forget ! 9 refl $
         keep ! (0 ∷ 1 ∷ 2 ∷ 3 ∷ 4 ∷ 5 ∷ 6 ∷ 7 ∷ 8 ∷ 9 ∷ 10 ∷ 11 ∷ 12 ∷ 13 ∷ 14 ∷ 15 ∷ 16 ∷ 17 ∷ 18 ∷ 19 ∷ 20 ∷ 21 ∷ 22 ∷ 23 ∷ 24 ∷ 25 ∷ 26 ∷ 27 ∷ []) $
         again ! Nearer At i (i .0 + 1, add-one-le h) (add-one-dec 63 (i .0) h)))
@@ -162,7 +167,7 @@ module _ {M : Type 1} (𝓤 : URA M) (H : Heap 𝓤) (A : Atoms 𝓤) (W : Given
   walk 𝓣 gn p same =
       qed W ((‵ (flft κ q) ⊛ ‵ ftrue) ∷ ‵ (owns (MutSlice (named 0) κ rowT ∷ Array rowT 63 ∷ []) x at) ∷ []) ∵ enter ! (𝓣 .C) (𝓣 .Λ) code.function (sliceVal (b, o) (length ys) ∷ arr-val tb ∷ []) _ $
       alloc1 ! (λ l₀. alloc1 ! (λ l₁. alloc1 ! (λ l₂. alloc1 ! (λ l₃. alloc1 ! (λ l₄. alloc1 ! (λ l₅. alloc1 ! (λ l₆. alloc1 ! (λ l₇. alloc1 ! (λ l₈. alloc1 ! (λ l₉. alloc1 ! (λ l₁₀. alloc1 ! (λ
-          l₁₁. alloc0 ! $ params1 ! $
+      l₁₁. alloc0 ! $ params1 ! $
       pass1 ! (init ! 20 refl (tt, (tt, (record { fits = gn .0 }, tt)))) $ pass1 ! (init ! 18 refl (arr-typed 𝓤 H A W 63 tb p)) $ pass0 ! $
       assigns ! (of-opd ! (load ! (from ! (stop !)) (look ! 18 refl))) (from ! (stop !)) (init ! 16 refl (arr-typed 𝓤 H A W 63 tb p)) $
       assigns ! (of-opd ! (lit ! tt)) (from ! (stop !)) (init ! 14 refl (tt, record { fits = lit< tt })) $
@@ -182,7 +187,7 @@ rows-out-meets : {M : Type 1} (𝓤 : URA M) (H : Heap 𝓤) (A : Atoms 𝓤) �
     → Meets 𝓤 H A rows-out.signature (WpFn 𝓤 H (𝓣 .C) (𝓣 .Λ) code.function) (rows-out.spec 𝓤 H A mem run)
 rows-out-meets 𝓤 H A W mem run 𝓣 =
     walk-meets 𝓤 H A rows-out.ended stayed W (goes-slice 𝓤 H A W 1 0 tt (plain (λ _. rowT)), (goes-dropped 𝓤 H A W 1 (arrayOf (plain (λ _. rowT)) 63) kept (λ κs x f. refl), tt))
-        (rows-out.clauses 𝓤 H A mem run)
+    (rows-out.clauses 𝓤 H A mem run)
     (WpFn 𝓤 H (𝓣 .C) (𝓣 .Λ) code.function) (WpFn-mono 𝓤 H (W .laws) 𝓣 code.function) (rows-out-walks 𝓤 H A W mem run 𝓣)
 
 pub rows-out-spec : {M : Type 1} → stated.statement M

@@ -17,17 +17,15 @@ slice-aggregate-wake c = search needs
 wake-requires : tie.Need-wake-requires
 wake-requires c κs = search needs
 
-rows-of-requires : tie.Need-rows-of-requires
-rows-of-requires c κs = search needs
+keep-requires : tie.Need-keep-requires
+keep-requires c κs = search needs
 
 returns : tie.Need-returns
 returns c =
-    let a = c .before .before .before .before .before .before .before .before .args in
-    held-as-rows (c .before .before .before .before .before .wake .result) _ [] _ _
-    (c .before .before .before .before .before .wake .ensures ∙ ap (λ (t : List ℕ). waking (record { head = a .head; table = t; area = [] }) (a .key)) (c .before .before .before .before .before
-        .before .before .flat .ensures))
-    (c .before .before .rows-of .ensures)
+    let a = c .before .before .before .before .before .before .args in
+    held-as-rows (c .keep .result) (c .before .before .before .wake .result) _ [] _ (c .keep .ensures)
+    (c .before .before .before .wake .ensures ∙ ap (λ (t : List ℕ). waking (record { head = a .head; table = t; area = [] }) (a .key)) (c .before .before .before .before .before .flat .ensures))
 
 pub wake-kept-spec : {M : Type 1} → statement M
 wake-kept-spec =
-    tie.close (tie.spec flat-requires slice-aggregate-wake wake-requires rows-of-requires returns)
+    tie.close (tie.spec flat-requires slice-aggregate-wake wake-requires keep-requires returns)
