@@ -30,7 +30,7 @@ returns c =
     held-as-rows (c .keep .result) (c .before .before .before .before .before .append .result) _ _ _ (c .keep .ensures)
     (c .before .before .before .before .before .append .ensures
     ∙ ap (λ (t : List ℕ). appending (record { head = a .head; table = t; area = now (a .area) }) (a .asked .label) (a .asked .entry) (a .asked .expected)) (c .before .before .before .before
-        .before .before .before .before .before .before .flat .ensures))
+    .before .before .before .before .before .before .flat .ensures))
 
 pub append-kept-spec : {M : Type 1} → statement M
 append-kept-spec =

@@ -30,7 +30,7 @@ returns c =
     held-as-rows (c .keep .result) (c .before .before .before .before .before .new .result) _ _ _ (c .keep .ensures)
     (c .before .before .before .before .before .new .ensures
     ∙ ap (λ (t : List ℕ). making (record { head = a .head; table = t; area = now (a .area) }) (a .asked .label)) (c .before .before .before .before .before .before .before .before .before .flat
-        .ensures))
+    .ensures))
 
 pub new-kept-spec : {M : Type 1} → statement M
 new-kept-spec =

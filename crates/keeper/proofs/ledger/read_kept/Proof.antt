@@ -30,7 +30,7 @@ returns c =
     held-as-rows (c .keep .result) (c .before .before .before .before .read .result) _ _ _ (c .keep .ensures)
     (c .before .before .before .before .read .ensures
     ∙ ap (λ (t : List ℕ). reading (record { head = a .head; table = t; area = now (a .area) }) (a .asked .label) (a .asked .nonce)) (c .before .before .before .before .before .before .before
-        .before .before .flat .ensures))
+    .before .before .flat .ensures))
 
 pub read-kept-spec : {M : Type 1} → statement M
 read-kept-spec =
