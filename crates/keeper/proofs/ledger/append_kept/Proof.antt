@@ -1,0 +1,44 @@
+-- `keeper::ledger::append_kept` meets its contract. Assumes nothing.
+use mathlib.Core.Path.{ap, _∙_}
+use mathlib.Core.List.{List}
+use Prim.Native.Nat.{ℕ}
+use denote.Ref.{now}
+use Rattle.rules.specs.Append.{appending}
+use Rattle.keeper.proofs.HeldRows.{held-as-rows}
+use borrow.Author.Needs.{needs}
+use Rattle.keeper.proofs.ledger.append_kept.Statement.{statement}
+use Rattle.keeper.proofs.ledger.append_kept.Tie as tie
+
+flat-requires : tie.Need-flat-requires
+flat-requires c κs = search needs
+
+slice-aggregate-append : tie.Need-slice-aggregate-append
+slice-aggregate-append c = search needs
+
+append-requires : tie.Need-append-requires
+append-requires c κs = search needs
+
+keep-requires : tie.Need-keep-requires
+keep-requires c κs = search needs
+
+same-length : tie.Need-same-length
+same-length c = search needs
+
+returns : tie.Need-returns
+returns c =
+    let a = c .before .before .before .before .before .before .before .before .before .before .before .before .args in
+    held-as-rows (c .keep .result) (c .before .before .before .before .before .append .result) _ _ _ (c .keep .ensures)
+    (c .before .before .before .before .before .append .ensures
+    ∙ ap (λ (t : List ℕ). appending (record { head = a .head; table = t; area = now (a .area) }) (a .asked .label) (a .asked .entry) (a .asked .expected)) (c .before .before .before .before
+    .before .before .before .before .before .before .flat .ensures))
+
+pub append-kept-spec : {M : Type 1} → statement M
+append-kept-spec =
+    tie.close
+    (tie.spec
+    flat-requires
+    slice-aggregate-append
+    append-requires
+    keep-requires
+    same-length
+    returns)

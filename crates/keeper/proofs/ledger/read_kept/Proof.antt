@@ -1,0 +1,38 @@
+-- `keeper::ledger::read_kept` meets its contract. Assumes nothing.
+use mathlib.Core.Path.{ap, _∙_}
+use mathlib.Core.List.{List}
+use Prim.Native.Nat.{ℕ}
+use denote.Ref.{now}
+use Rattle.rules.specs.Read.{reading}
+use Rattle.keeper.proofs.HeldRows.{held-as-rows}
+use borrow.Author.Needs.{needs}
+use Rattle.keeper.proofs.ledger.read_kept.Statement.{statement}
+use Rattle.keeper.proofs.ledger.read_kept.Tie as tie
+
+flat-requires : tie.Need-flat-requires
+flat-requires c κs = search needs
+
+slice-aggregate-read : tie.Need-slice-aggregate-read
+slice-aggregate-read c = search needs
+
+read-requires : tie.Need-read-requires
+read-requires c κs = search needs
+
+keep-requires : tie.Need-keep-requires
+keep-requires c κs = search needs
+
+same-length : tie.Need-same-length
+same-length c = search needs
+
+returns : tie.Need-returns
+returns c =
+    let a = c .before .before .before .before .before .before .before .before .before .before .before .args in
+    held-as-rows (c .keep .result) (c .before .before .before .before .read .result) _ _ _ (c .keep .ensures)
+    (c .before .before .before .before .read .ensures
+    ∙ ap (λ (t : List ℕ). reading (record { head = a .head; table = t; area = now (a .area) }) (a .asked .label) (a .asked .nonce)) (c .before .before .before .before .before .before .before
+    .before .before .flat .ensures))
+
+pub read-kept-spec : {M : Type 1} → statement M
+read-kept-spec =
+    tie.close
+    (tie.spec flat-requires slice-aggregate-read read-requires keep-requires same-length returns)

@@ -1,0 +1,67 @@
+// The calls on ledgers, on rows by value. All have one shape.
+use crate::Asked;
+use crate::Kept;
+use crate::Row;
+use crate::flattening::flat;
+use crate::values::keep;
+use rows::MOST;
+use rules::Head;
+ghost use mathlib.Core.Path.{_≡_};
+ghost use Rattle.rules.specs.Outcomes.{Lent};
+ghost use Rattle.rules.specs.New.{making};
+ghost use Rattle.rules.specs.Append.{appending};
+ghost use Rattle.rules.specs.Read.{reading, appending-and-reading};
+ghost use Rattle.keeper.specs.Flat.{flattened};
+ghost use Rattle.keeper.specs.Held.{Held, as-rows};
+
+// New.
+pub fn new_kept(head: Head, rows: [Row; MOST], asked: Asked, area: &mut [u8]) -> Kept
+    ensures { λ r. ⌜ record { answer = r .answer; head = r .head; rows = r .rows; area = now (area .exit) } ≡ as-rows (making (record { head = head; table = flattened rows; area = now (area .entry) }) (asked .label)) ⌝ }
+{
+    let mut table = flat(rows);
+    let label = asked.label;
+    let told = ledgers::new(head, &mut table, label, area);
+    keep(told, &table)
+}
+
+// Append.
+pub fn append_kept(head: Head, rows: [Row; MOST], asked: Asked, area: &mut [u8]) -> Kept
+    ensures { λ r. ⌜ record { answer = r .answer; head = r .head; rows = r .rows; area = now (area .exit) } ≡ as-rows (appending (record { head = head; table = flattened rows; area = now (area .entry) }) (asked .label) (asked .entry) (asked .expected)) ⌝ }
+{
+    let mut table = flat(rows);
+    let label = asked.label;
+    let entry = asked.entry;
+    let told = ledgers::append(head, &mut table, label, entry, asked.expected, area);
+    keep(told, &table)
+}
+
+// Read.
+pub fn read_kept(head: Head, rows: [Row; MOST], asked: Asked, area: &mut [u8]) -> Kept
+    ensures { λ r. ⌜ record { answer = r .answer; head = r .head; rows = r .rows; area = now (area .exit) } ≡ as-rows (reading (record { head = head; table = flattened rows; area = now (area .entry) }) (asked .label) (asked .nonce)) ⌝ }
+{
+    let table = flat(rows);
+    let label = asked.label;
+    let nonce = asked.nonce;
+    let told = ledgers::read(head, &table, label, nonce, area);
+    keep(told, &table)
+}
+
+// Append and read.
+pub fn append_and_read_kept(head: Head, rows: [Row; MOST], asked: Asked, area: &mut [u8]) -> Kept
+    ensures { λ r. ⌜ record { answer = r .answer; head = r .head; rows = r .rows; area = now (area .exit) } ≡ as-rows (appending-and-reading (record { head = head; table = flattened rows; area = now (area .entry) }) (asked .label) (asked .entry) (asked .expected) (asked .nonce)) ⌝ }
+{
+    let mut table = flat(rows);
+    let label = asked.label;
+    let entry = asked.entry;
+    let nonce = asked.nonce;
+    let told = ledgers::append_and_read(
+        head,
+        &mut table,
+        label,
+        entry,
+        asked.expected,
+        nonce,
+        area,
+    );
+    keep(told, &table)
+}
