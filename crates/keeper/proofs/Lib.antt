@@ -6,3 +6,4 @@ pub mod RowsHeld
 pub mod Turns
 pub mod HeldRows
 pub mod KeptHeld
+pub mod ThinCalls

@@ -19,7 +19,7 @@ use prog.Wp.{Heap, Calls, Loops, Env, WpFn, Tables}
 use ghost.Atoms.{Atoms, sem}
 use contract.Monad.{Fun, fact}
 use contract.Running.{givenOf, tables, tablesOf}
-use types.Kit.{Given, Sq, runs, ‵, raw, _⊛_, some, later, ⋆, atRet, _$_, _∵_, !, qed, by, move, keep, drop, use0, use1, use2, split, join, pick, rewrite, fsplit, fsplit3, fjoin, fjoin3, feqL, feqI, suffices, frame, await, done}
+use types.Kit.{Given, given, learn, Sq, runs, ‵, raw, _⊛_, some, later, ⋆, atRet, _$_, _∵_, !, qed, by, move, keep, drop, use0, use1, use2, split, join, pick, rewrite, fsplit, fsplit3, fjoin, fjoin3, feqL, feqI, suffices, frame, await, done}
 use types.Part.{whole, sub, look-in, agg}
 use types.Run.{look, look-raw, store-raw, init, forget, stop, hop, fld, from, load, lit, false-lit, and-then, no-more, of-opd, bin, addr, assigns, land, first, skips, branches, returns-within, returns, enter, alloc1, alloc0, params1, pass1, pass0, free1, free0, exec}
 use types.Tokens.{lft-new, lft-end, lent-back}
@@ -36,7 +36,7 @@ use denote.Ref.{RefT, MutRef, ptr-vals, mut-tells}
 use denote.Slice.{sliceTy, sliceVal, MutSlice, ShrSlice, Room, heres, finally, slice-vals, mut-slice-tells, at-slice, codedHoleys, res-finally}
 use denote.Shadow.{pureI}
 use denote.Lend.{lends-shr-slice, Held as HeldS}
-use denote.Index.{opens-slice, closes-slice}
+use denote.Index.{row, opens-slice, closes-slice}
 use denote.Signature.{plain}
 use denote.Signature.Array.{arrayOf}
 use denote.Steps.{opens, closes, owned, peeks, heard, nothing, only}
@@ -67,9 +67,10 @@ use Rattle.keeper.proofs.Row as R
 use Rattle.keeper.proofs.Row.Laws as R′
 use Rattle.keeper.proofs.Kept as K
 use Rattle.keeper.proofs.Kept.Laws as K′
-use Rattle.keeper.proofs.HeldRows.{over-63, over-other}
+use Rattle.keeper.proofs.HeldRows.{over-63, over-other, waking-other}
 use Rattle.keeper.proofs.KeptHeld.{rows-val, answer-is, head-is, rows-is}
-use Rattle.keeper.proofs.RowsHeld.{rowT, arrTy, arr-val, arr-tells, arr-makes}
+use Rattle.keeper.proofs.RowsHeld.{rowT, arrTy, arr-val, arr-tells, arr-makes, rows-known}
+use Rattle.keeper.proofs.RowTrips.{AllTyped}
 use Rattle.keeper.proofs.lent.rows_in as rows-in
 use Rattle.keeper.proofs.lent.rows_in.Symbol as rows-in-def
 use Rattle.keeper.proofs.lent.rows_in.Symbol.{name as #rows-in}
@@ -232,7 +233,7 @@ module _ {M : Type 1} (𝓤 : URA M) (H : Heap 𝓤) (A : Atoms 𝓤) (W : Given
   goes-kept ish isr =
       qed W [] ∵ nothing ! $ owned ! keyT (Is keyT) (array-makes 𝓤 H A W u8 (uint-makes 𝓤 H A W w8) 32) key (kv ∷ []) pk $ fjoin ! $
       owned ! (Array rowT 63) (Is (Array rowT 63)) (arr-makes 𝓤 H A W 63) ys (arr-val ys ∷ []) isr $ fjoin ! $
-      owned ! headT (Is headT) (LL.makes Hd.the-type Hd′.the-plain 𝓤 H A) h (head-vals h) ish $ fjoin ! $
+          owned ! headT (Is headT) (LL.makes Hd.the-type Hd′.the-plain 𝓤 H A) h (head-vals h) ish $ fjoin ! $
       nothing ! $ join ! $ frame ! $ done !
 
   abbrev Left : Kept → Type 0
@@ -275,13 +276,8 @@ module _ {M : Type 1} (𝓤 : URA M) (H : Heap 𝓤) (A : Atoms 𝓤) (W : Given
         move ! (0 ∷ 10 ∷ []) $ free1 ! $ move ! (0 ∷ 9 ∷ []) $ free1 ! $ move ! (0 ∷ 8 ∷ []) $ free1 ! $ move ! (0 ∷ 7 ∷ []) $ free1 ! $ move ! (0 ∷ 6 ∷ []) $ free1 ! $
         move ! (0 ∷ 5 ∷ []) $ free1 ! $ move ! (0 ∷ 4 ∷ []) $ free1 ! $ move ! (0 ∷ 3 ∷ []) $ free1 ! $ move ! (0 ∷ 2 ∷ []) $ free1 ! $ free1 ! $
         free0 ! $
-        keep ! (0 ∷ 1 ∷ 2 ∷ 3 ∷ 4 ∷ []) $ by ! (exits (k .answer) (answer-val (k .answer)) (k .head) zs (answer-is k (v ∷ []) isk) (ap (λ (l′ : List Row). record {
-          answer = k .answer;
-          head = k
-              .head;
-          rows = l′;
-          area = [];
-        }) e₃ ∙ e₂ ∙ over-63 (λ k′. waking k′ key) h ys [] same) l)
+        keep ! (0 ∷ 1 ∷ 2 ∷ 3 ∷ 4 ∷ []) $ by ! (exits (k .answer) (answer-val (k .answer)) (k .head) zs (answer-is k (v ∷ []) isk) (ap (λ (l′ : List Row). record { answer = k .answer; head = k
+            .head; rows = l′; area = [] }) e₃ ∙ e₂ ∙ over-63 (λ k′. waking k′ key) h ys [] same) l)
 
     at-out : length ys ≡ 63 → (k : Kept) (v : Val) → Is K.the-row k (v ∷ []) → Left k → Sq W (‵ (froom (N′.mir) l₀ 0) ∷ ‵ (fat fullShare (refTy) l₁ 0 (vptr b₁ o₁)) ∷ ‵ (fat fullShare (slice) l₂
         0 sv) ∷ ‵ (fat fullShare (keyTy) l₃ 0 kv) ∷ ‵ (fat fullShare (arr) l₄ 0 (arr-val ys)) ∷ ‵ (fat fullShare (K′.mir) l₅ 0 (LL.val K.the-type K′.the-laws k)) ∷ ‵ (fat fullShare (arr) l₆ 0
@@ -296,14 +292,8 @@ module _ {M : Type 1} (𝓤 : URA M) (H : Heap 𝓤) (A : Atoms 𝓤) (W : Given
         move ! (33 ∷ 34 ∷ []) $ fjoin ! $ pureI ! (at-slice rowT xs (sv ∷ [])) (tt, (tt, tt)) (refl, gn) $ fjoin ! $ move ! (34 ∷ 0 ∷ []) $
         use2 W (raw (Out 𝓤 H A mem run .pre (to-out k))) (goes-out same k (rows-is k (v ∷ []) isk)) $
         calls-at ! fm (Out 𝓤 H A mem run) known-out (to-out k) (and-then ! (load ! (from ! (stop !)) (look ! 15 refl)) (and-then ! (load ! (from ! (stop !)) (look ! 7 refl)) (no-more !))) (λ u.
-        use1 W (later (some (λ (r′ : Unit {0}). ((‵ (flft κ₂ q₂) ⊛ ‵ ftrue) ⊛ ‵ (Nothing .own r′ (u ∷ []))) ⊛ raw (ensured 𝓤 H A rows-out.ended (rows-out.clauses 𝓤 H A mem run) (κ₂, tt) (
-          xs,
-          (
-            k
-                .rows,
-            tt,
-          ),
-        ) tt r′)))) (id⊢ 𝓤 _) $ await ! tt $ pick ! (λ r′.
+        use1 W (later (some (λ (r′ : Unit {0}). ((‵ (flft κ₂ q₂) ⊛ ‵ ftrue) ⊛ ‵ (Nothing .own r′ (u ∷ []))) ⊛ raw (ensured 𝓤 H A rows-out.ended (rows-out.clauses 𝓤 H A mem run) (κ₂, tt) (xs, (k
+        .rows, tt)) tt r′)))) (id⊢ 𝓤 _) $ await ! tt $ pick ! (λ r′.
         split ! $ move ! (1 ∷ []) $ use1 W (some (λ (zs : List Row × (Unit {0} × Unit {0})). ‵ (lasts rows-out.ended (κ₂, tt) (xs, (k .rows, tt)) zs) ⊛ raw (fact 𝓤 (zs .0 ≡ k .rows)))) (id⊢ 𝓤 _)
         $ pick ! (λ zs. split ! $
         move ! (1 ∷ []) $ heard ! (zs .0 ≡ k .rows) (λ e₃. fsplit ! $ fsplit ! $ move ! (1 ∷ []) $ feqL ! (λ l.
@@ -329,7 +319,7 @@ module _ {M : Type 1} (𝓤 : URA M) (H : Heap 𝓤) (A : Atoms 𝓤) (W : Given
         (v ∷ []) isk))) $
         assigns ! (addr ! (from ! (fld ! refl (hop ! (look-in ! 5 (sub ! 0 refl (whole !))) (stop !))))) (from ! (stop !)) (init ! 16 refl (tt, tt)) $
         assigns ! (agg ! (and-then ! (load ! (from ! (stop !)) (look ! 16 refl)) (and-then ! (load ! (from ! (fld ! refl (stop !))) (look-in ! 5 (sub ! 1 refl (whole !)))) (no-more !)))) (from !
-        (stop !)) (init ! 17 refl (tt, (tt, (record { fits = gn .0 }, tt)))) $
+            (stop !)) (init ! 17 refl (tt, (tt, (record { fits = gn .0 }, tt)))) $
         keep ! (3 ∷ 4 ∷ 5 ∷ 6 ∷ 7 ∷ 8 ∷ 9 ∷ 10 ∷ 11 ∷ 12 ∷ 13 ∷ 14 ∷ 15 ∷ 16 ∷ 17 ∷ 18 ∷ 19 ∷ 20 ∷ 21 ∷ 22 ∷ 23 ∷ 24 ∷ 25 ∷ 26 ∷ 27 ∷ 28 ∷ 29 ∷ 30 ∷ 31 ∷ 32 ∷ 0 ∷ 1 ∷ 2 ∷ 33 ∷ 34 ∷ 35 ∷ []) $
         at-out same k v isk e₂
 
@@ -389,8 +379,11 @@ module _ {M : Type 1} (𝓤 : URA M) (H : Heap 𝓤) (A : Atoms 𝓤) (W : Given
         (runs C Λ En body.t-3 (atRet En Post))
     at-branch =
         first ! $ branches ! (load ! (from ! (stop !)) (look ! 8 refl))
-        (λ ne. assigns ! (agg ! (and-then ! (lit ! tt) (and-then ! (lit ! tt) (and-then ! (lit ! tt) (and-then ! (false-lit !) (no-more !)))))) (from ! (stop !)) (init ! 0 refl (answer-typed
-        refused refused-is)) $
+        (λ ne. move ! (33 ∷ 34 ∷ 35 ∷ []) $ opens-slice ! tt rowT ys b o $ use1 W (given (AllTyped ys) (‵ (row rowT fullShare ys b o))) (rows-known 𝓤 H A W ys b o) $ learn ! (λ ts.
+        closes-slice ! tt rowT ys ys refl b o $ keep ! (3 ∷ 4 ∷ 5 ∷ 6 ∷ 7 ∷ 8 ∷ 9 ∷ 10 ∷ 11 ∷ 12 ∷ 13 ∷ 14 ∷ 15 ∷ 16 ∷ 17 ∷ 18 ∷ 19 ∷ 20 ∷ 21 ∷ 22 ∷ 23 ∷ 24 ∷ 25 ∷ 26 ∷ 27 ∷ 28 ∷ 29 ∷ 30 ∷ 31 ∷
+        32 ∷ 33 ∷ 34 ∷ 35 ∷ 0 ∷ 1 ∷ 2 ∷ []) $
+        assigns ! (agg ! (and-then ! (lit ! tt) (and-then ! (lit ! tt) (and-then ! (lit ! tt) (and-then ! (false-lit !) (no-more !)))))) (from ! (stop !)) (init ! 0 refl (answer-typed refused
+        refused-is)) $
         returns-within ! Post refl (look ! 0 refl) $
         forget ! 0 refl $ forget ! 1 refl $ forget ! 2 refl $ forget ! 3 refl $ forget ! 7 refl $ forget ! 8 refl $
         move ! (0 ∷ 15 ∷ []) $ free1 ! $ move ! (0 ∷ 14 ∷ []) $ free1 ! $ move ! (0 ∷ 13 ∷ []) $ free1 ! $ move ! (0 ∷ 12 ∷ []) $ free1 ! $ move ! (0 ∷ 11 ∷ []) $ free1 ! $
@@ -399,11 +392,12 @@ module _ {M : Type 1} (𝓤 : URA M) (H : Heap 𝓤) (A : Atoms 𝓤) (W : Given
         free0 ! $
         move ! (3 ∷ []) $ use1 W (‵ (fres γ (codedHoleys rowT .code (heres rowT ys)))) (W .names .obs-res γ (codedHoleys rowT .code (heres rowT ys))) $
         use1 W (‵ (finally rowT γ ys)) (res-finally 𝓤 H A W (named 1) κ₂ rowT γ ys) $
-        keep ! (3 ∷ 5 ∷ 1 ∷ 2 ∷ 0 ∷ []) $ by ! (exits refused (answer-val refused) h ys refused-is (over-other (λ k. waking k key) h ys [] (other (length ys) ne)) refl))
+        keep ! (3 ∷ 5 ∷ 1 ∷ 2 ∷ 0 ∷ []) $ by ! (exits refused (answer-val refused) h ys refused-is (over-other (λ k. waking k key) h ys [] refused (other (length ys) ne) (waking-other h ys key
+        [] ts (other (length ys) ne))) refl)))
         (λ eq. skips ! $ exec ! C Λ En body.t-4 (atRet En Post) $
         assigns ! (addr ! (from ! (fld ! refl (hop ! (look-in ! 2 (sub ! 0 refl (whole !))) (stop !))))) (from ! (stop !)) (init ! 9 refl (tt, tt)) $
         assigns ! (agg ! (and-then ! (load ! (from ! (stop !)) (look ! 9 refl)) (and-then ! (load ! (from ! (fld ! refl (stop !))) (look-in ! 2 (sub ! 1 refl (whole !)))) (no-more !)))) (from !
-        (stop !)) (init ! 10 refl (tt, (tt, (record { fits = gn .0 }, tt)))) $
+            (stop !)) (init ! 10 refl (tt, (tt, (record { fits = gn .0 }, tt)))) $
         keep ! (0 ∷ 1 ∷ 2 ∷ 3 ∷ 4 ∷ 5 ∷ 6 ∷ 7 ∷ 8 ∷ 9 ∷ 10 ∷ 11 ∷ 12 ∷ 13 ∷ 14 ∷ 15 ∷ 16 ∷ 17 ∷ 18 ∷ 19 ∷ 20 ∷ 21 ∷ 22 ∷ 23 ∷ 24 ∷ 25 ∷ 26 ∷ 27 ∷ 28 ∷ 29 ∷ 30 ∷ 31 ∷ 32 ∷ 33 ∷ 34 ∷ 35 ∷ []) $
         at-in (is-63 (length ys) eq))
 
@@ -429,7 +423,7 @@ module _ {M : Type 1} (𝓤 : URA M) (H : Heap 𝓤) (A : Atoms 𝓤) (W : Given
       (λ κs. (mut-tells (named 0) (κs .0) headT, (mut-slice-tells (named 1) (κs .1 .0) rowT, (key-tells, tt))))
       (λ κs qs bounds a g are. via 𝓤 _ (fst∗ 𝓤 _ (emp 𝓤))
       (walk 𝓤 H A W mem run (κs .0) (κs .1 .0) (qs .0) (qs .1 .0) (a .0 .ptr .0) (a .0 .ptr .1) (a .1 .0 .ptr .0) (a .1 .0 .ptr .1) (a .0 .name) (a .1 .0 .name) (a .0 .now) (a .1 .0 .now) (a .1
-      .1 .0) (are .1 .0 .0 .1) (are .1 .1 .0) C Λ fm known-in known-kept known-out))
+          .1 .0) (are .1 .0 .0 .1) (are .1 .1 .0) C Λ fm known-in known-kept known-out))
 
 wake-meets : {M : Type 1} (𝓤 : URA M) (H : Heap 𝓤) (A : Atoms 𝓤) → Given 𝓤 H A → (mem : Memory → SProp 𝓤) (run : Routine → Fun 𝓤) (𝓣 : Tables 𝓤 H)
     → Triple 𝓤 (𝓣 .C #rows-in) (In 𝓤 H A mem run) → Triple 𝓤 (𝓣 .C #kept) (Kp 𝓤 H A mem run) → Triple 𝓤 (𝓣 .C #rows-out) (Out 𝓤 H A mem run)
@@ -437,7 +431,7 @@ wake-meets : {M : Type 1} (𝓤 : URA M) (H : Heap 𝓤) (A : Atoms 𝓤) → Gi
 wake-meets 𝓤 H A W mem run 𝓣 known-in known-kept known-out =
     walk-meets 𝓤 H A wake.ended stayed W
     (goes-ref 𝓤 H A W 2 0 tt (plain (λ _. headT)), (goes-gave-slice 𝓤 H A W 2 1 tt (plain (λ _. rowT)), (goes-dropped 𝓤 H A W 2 (arrayOf (plain (λ _. u8)) 32) is-kept (λ κs x f. refl), tt)))
-    (wake.clauses 𝓤 H A mem run)
+        (wake.clauses 𝓤 H A mem run)
     (WpFn 𝓤 H (𝓣 .C) (𝓣 .Λ) code.function) (WpFn-mono 𝓤 H (W .laws) 𝓣 code.function) (wake-walks 𝓤 H A W mem run (𝓣 .C) (𝓣 .Λ) (fmOf 𝓤 H (W .laws) 𝓣) known-in known-kept known-out)
 
 pub wake-spec : {M : Type 1} → stated.statement M
