@@ -7,7 +7,8 @@ use denote.Triple.Table.{entered, cited}
 use Rattle.rules.specs.Outcomes.{Lent, Outcome}
 use Rattle.keeper.specs.declared.Asked.{Asked}
 use Rattle.keeper.proofs.HeldRows.{appending-other}
-use Rattle.keeper.proofs.ThinCalls.{In, Out, Other, Kp, thin-meets}
+use Rattle.keeper.proofs.RowsLent.{In, Out}
+use Rattle.keeper.proofs.ThinCalls.{Other, Kp, thin-meets}
 use Rattle.keeper.proofs.lent.rows_in.Symbol as rows-in
 use Rattle.keeper.proofs.lent.rows_in.Met as rows-in-thm
 use Rattle.keeper.proofs.lent.rows_out.Symbol as rows-out
