@@ -102,41 +102,61 @@ ask-tells = LL.tells Ak.the-type Ak′.the-laws
 -- the MIR
 module _ (callee : Name) (size : ℕ) where
   abbrev t-16 : Body
-  t-16 = seq (assign (place 0 []) (rvOpd (copy (place 6 (field 0 ∷ []))))) return
+  t-16 =
+      seq (assign (place 0 []) (rvOpd (copy (place 6 (field 0 ∷ []))))) return
 
   abbrev t-15 : Body
-  t-15 = seq (call #rows-out ((copy (place 18 [])) ∷ (copy (place 7 [])) ∷ []) (place 16 [])) (t-16)
+  t-15 =
+      seq (call #rows-out (copy (place 18 []) ∷ copy (place 7 []) ∷ []) (place 16 []))
+      t-16
 
   abbrev t-11 : Body
-  t-11 = seq (assign (place 1 (deref Hd′.mir ∷ [])) (rvOpd (copy (place 6 (field 1 ∷ []))))) (seq (assign (place 7 []) (rvOpd (copy (place 6 (field 2 ∷ []))))) (seq (assign (place 17 []) (addrOf
-      (place 2 (field 0 ∷ deref R′.mir ∷ [])))) (seq (assign (place 18 []) (aggregate ((copy (place 17 [])) ∷ (copy (place 2 (field 1 ∷ []))) ∷ []))) (t-15))))
+  t-11 =
+      seq (assign (place 1 (deref Hd′.mir ∷ [])) (rvOpd (copy (place 6 (field 1 ∷ [])))))
+      (seq (assign (place 7 []) (rvOpd (copy (place 6 (field 2 ∷ [])))))
+      (seq (assign (place 17 []) (addrOf (place 2 (field 0 ∷ deref R′.mir ∷ []))))
+      (seq (assign (place 18 []) (aggregate (copy (place 17 []) ∷ copy (place 2 (field 1 ∷ [])) ∷ [])))
+      t-15)))
 
   abbrev t-7 : Body
-  t-7 = seq (assign (place 13 []) (rvOpd (copy (place 1 (deref Hd′.mir ∷ []))))) (seq (assign (place 14 []) (addrOf (place 4 (field 0 ∷ deref byte ∷ [])))) (seq (assign (place 15 []) (aggregate
-      ((copy (place 14 [])) ∷ (copy (place 4 (field 1 ∷ []))) ∷ []))) (seq (call callee ((copy (place 13 [])) ∷ (copy (place 5 [])) ∷ (copy (place 3 [])) ∷ (copy (place 15 [])) ∷ []) (place 6
-      [])) (t-11))))
+  t-7 =
+      seq (assign (place 13 []) (rvOpd (copy (place 1 (deref Hd′.mir ∷ [])))))
+      (seq (assign (place 14 []) (addrOf (place 4 (field 0 ∷ deref byte ∷ []))))
+      (seq (assign (place 15 []) (aggregate (copy (place 14 []) ∷ copy (place 4 (field 1 ∷ [])) ∷ [])))
+      (seq (call callee (copy (place 13 []) ∷ copy (place 5 []) ∷ copy (place 3 []) ∷ copy (place 15 []) ∷ []) (place 6 []))
+      t-11)))
 
   abbrev t-6 : Body
-  t-6 = seq (call #rows-in ((copy (place 12 [])) ∷ []) (place 5 [])) (t-7)
+  t-6 =
+      seq (call #rows-in (copy (place 12 []) ∷ []) (place 5 []))
+      t-7
 
   abbrev t-4 : Body
-  t-4 = seq (assign (place 11 []) (addrOf (place 2 (field 0 ∷ deref R′.mir ∷ [])))) (seq (assign (place 12 []) (aggregate ((copy (place 11 [])) ∷ (copy (place 2 (field 1 ∷ []))) ∷ []))) (t-6))
+  t-4 =
+      seq (assign (place 11 []) (addrOf (place 2 (field 0 ∷ deref R′.mir ∷ []))))
+      (seq (assign (place 12 []) (aggregate (copy (place 11 []) ∷ copy (place 2 (field 1 ∷ [])) ∷ [])))
+      t-6)
 
   abbrev t-3 : Body
-  t-3 = seq (cond (copy (place 9 [])) (seq (assign (place 10 []) (rvOpd (copy (place 4 (field 1 ∷ []))))) (seq (call #other ((copy (place 10 [])) ∷ int w64 size ∷ []) (place 0 [])) return))
-      skip) (t-4)
+  t-3 =
+      seq (cond (copy (place 9 [])) (seq (assign (place 10 []) (rvOpd (copy (place 4 (field 1 ∷ []))))) (seq (call #other (copy (place 10 []) ∷ int w64 size ∷ []) (place 0 [])) return)) skip)
+      t-4
 
   abbrev t-1 : Body
-  t-1 = seq (assign (place 8 []) (rvOpd (copy (place 2 (field 1 ∷ []))))) (seq (assign (place 9 []) (op2 ne (copy (place 8 [])) (int w64 63))) (t-3))
+  t-1 =
+      seq (assign (place 8 []) (rvOpd (copy (place 2 (field 1 ∷ [])))))
+      (seq (assign (place 9 []) (op2 ne (copy (place 8 [])) (int w64 63)))
+      t-3)
 
   abbrev pub thin-fn : Fn
   thin-fn = record {
     lifetimes = 3;
     outlives = [];
     params = 4;
-    locals = local N′.mir valueLocal ∷ local refTy valueLocal ∷ local slice valueLocal ∷ local Ak′.mir valueLocal ∷ local areaTy valueLocal ∷ local arr valueLocal ∷ local K′.mir valueLocal ∷
-        local arr valueLocal ∷ local word valueLocal ∷ local tyBool valueLocal ∷ local word valueLocal ∷ local shrTy valueLocal ∷ local (sliceTy shrTy) valueLocal ∷ local Hd′.mir valueLocal ∷
-        local mut8 valueLocal ∷ local (sliceTy mut8) valueLocal ∷ local tyUnit valueLocal ∷ local mutTy valueLocal ∷ local (sliceTy mutTy) valueLocal ∷ [];
+    locals = local N′.mir valueLocal ∷ local refTy valueLocal ∷ local slice valueLocal ∷ local Ak′.mir valueLocal ∷ local areaTy valueLocal ∷
+        local arr valueLocal ∷ local K′.mir valueLocal ∷ local arr valueLocal ∷ local word valueLocal ∷ local tyBool valueLocal ∷
+        local word valueLocal ∷ local shrTy valueLocal ∷ local (sliceTy shrTy) valueLocal ∷ local Hd′.mir valueLocal ∷ local mut8 valueLocal ∷
+        local (sliceTy mut8) valueLocal ∷ local tyUnit valueLocal ∷ local mutTy valueLocal ∷ local (sliceTy mutTy) valueLocal ∷ [];
     body = t-1;
   }
 
@@ -167,8 +187,8 @@ module _ {M : Type 1} (𝓤 : URA M) (H : Heap 𝓤) (A : Atoms 𝓤) (rule : Le
   Kp = tripleOf 𝓤 H A kept.signature (closing 𝓤 H A kept.ended (kept-clauses 𝓤 rule))
 
 module _ (rule : Lent → Asked → Outcome) (size : ℕ) (small : T (ltb size (2 ^ 64))) (refuses : RefusesOther rule size) (callee : Name) where
-  module _ {M : Type 1} (𝓤 : URA M) (H : Heap 𝓤) (A : Atoms 𝓤) (W : Given 𝓤 H A) (mem : Memory → SProp 𝓤) (run : Routine → Fun 𝓤) (κ₁ κ₂ κ₃ : Lft) (q₁ q₂ q₃ : Share) (b₁ o₁ b o b₃ o₃ : ℕ) (γ₁ γ
-      γ₃ : GName) (h : Head) (ys : List Row) (asked : Asked) (ar : List ℕ)
+  module _ {M : Type 1} (𝓤 : URA M) (H : Heap 𝓤) (A : Atoms 𝓤) (W : Given 𝓤 H A) (mem : Memory → SProp 𝓤) (run : Routine → Fun 𝓤)
+      (κ₁ κ₂ κ₃ : Lft) (q₁ q₂ q₃ : Share) (b₁ o₁ b o b₃ o₃ : ℕ) (γ₁ γ γ₃ : GName) (h : Head) (ys : List Row) (asked : Asked) (ar : List ℕ)
       (gn : Room rowT (length ys)) (pk : Is askT asked (ask-vals asked)) (ga : Room u8 (length ar)) where
     abbrev xs : RefT (List Row)
     xs = rows-at b o ys γ
@@ -200,23 +220,13 @@ module _ (rule : Lent → Asked → Outcome) (size : ℕ) (small : T (ltb size (
 
     exits : (r : Answer) (u : Val) (h′ : Head) (zs : List Row) (az : List ℕ) → Is N.the-row r (u ∷ [])
         → _≡_ {A = Held} (record { answer = r; head = h′; rows = zs; area = az }) (over-rows (λ k. rule k asked) h ys ar) → length zs ≡ length ys → length az ≡ length ar
-        → ent 𝓤 (⋆ 𝓤 H A (‵ (flft κ₁ q₁) ∷ ‵ (flft κ₂ q₂) ∷ ‵ (flft κ₃ q₃) ∷ ‵ (fobs γ₁ (headT .coded .code h′)) ∷ ‵ (fbor κ₁ (BodyAt (inMem headT) b₁ o₁ γ₁)) ∷ ‵ (finally rowT γ zs) ∷ ‵ (finally
-        u8 γ₃ az) ∷ [])) (Post u)
+        → ent 𝓤 (⋆ 𝓤 H A (‵ (flft κ₁ q₁) ∷ ‵ (flft κ₂ q₂) ∷ ‵ (flft κ₃ q₃) ∷ ‵ (fobs γ₁ (headT .coded .code h′)) ∷ ‵ (fbor κ₁ (BodyAt (inMem headT) b₁ o₁ γ₁)) ∷ ‵ (finally rowT γ zs) ∷ ‵
+        (finally u8 γ₃ az) ∷ [])) (Post u)
     exits r u h′ zs az p e l la =
-        qed W (‵ (flft κ₁ q₁) ∷ ‵ (flft κ₂ q₂) ∷ ‵ (flft κ₃ q₃) ∷ ‵ (fobs γ₁ (headT .coded .code h′)) ∷ ‵ (fbor κ₁ (BodyAt (inMem headT) b₁ o₁ γ₁)) ∷ ‵ (finally rowT γ zs) ∷ ‵ (finally u8 γ₃ az) ∷ []) ∵
-        suffices ! _ (ends-at 𝓤 H A thin.ended stayed (thin-clauses 𝓤 rule) W (((κ₁, (κ₂, (κ₃, tt))), (q₁, (q₂, (q₃, tt))), tt, x, at), tt) u r (h′, (zs, (tt, (az, tt)))) (
-          tt,
-          (
-            l,
-            (
-              tt,
-              (
-                la,
-                tt,
-              ),
-            ),
-          ),
-        )) $ says ! e $
+        qed W (‵ (flft κ₁ q₁) ∷ ‵ (flft κ₂ q₂) ∷ ‵ (flft κ₃ q₃) ∷ ‵ (fobs γ₁ (headT .coded .code h′)) ∷ ‵ (fbor κ₁ (BodyAt (inMem headT) b₁ o₁ γ₁)) ∷ ‵ (finally rowT γ zs) ∷ ‵ (finally u8 γ₃ az)
+        ∷ []) ∵
+        suffices ! _ (ends-at 𝓤 H A thin.ended stayed (thin-clauses 𝓤 rule) W
+        (((κ₁, (κ₂, (κ₃, tt))), (q₁, (q₂, (q₃, tt))), tt, x, at), tt) u r (h′, (zs, (tt, (az, tt)))) (tt, (l, (tt, (la, tt))))) $ says ! e $
         nothing ! $ move ! (3 ∷ 0 ∷ []) $ join ! $ move ! (2 ∷ 0 ∷ []) $ join ! $ move ! (1 ∷ 0 ∷ []) $ join ! $ frame ! $
         feqI ! (List Val) (vptr b₁ o₁ ∷ []) (vptr b₁ o₁ ∷ []) refl $ fjoin3 ! $ nothing ! $ move ! (3 ∷ 0 ∷ []) $ fjoin ! $ nothing ! $ fjoin ! $ move ! (2 ∷ 0 ∷ []) $ fjoin ! $
         move ! (1 ∷ 0 ∷ []) $ fjoin ! $ frame ! $
@@ -254,24 +264,27 @@ module _ (rule : Lent → Asked → Outcome) (size : ℕ) (small : T (ltb size (
     abbrev Left : Kept → List ℕ → Type 0
     Left k az = _≡_ {A = Held} (record { answer = k .answer; head = k .head; rows = k .rows; area = az }) (as-rows (rule (record { head = h; table = flattened ys; area = ar }) asked))
 
-    module _ (C : Calls 𝓤 H) (Λ : Loops 𝓤 H) (fm : FmC 𝓤 H (W .laws) C) (known-in : Triple 𝓤 (C #rows-in) (In 𝓤 H A mem run)) (known-other : Triple 𝓤 (C #other) (Other 𝓤 H A mem run)) (known-kept
-        : Triple 𝓤 (C callee) (Kp 𝓤 H A rule)) (known-out : Triple 𝓤 (C #rows-out) (Out 𝓤 H A mem run)) (l₀ l₁ l₂ l₃ l₄ l₅ l₆ l₇ l₈ l₉ l₁₀ l₁₁ l₁₂ l₁₃ l₁₄ l₁₅ l₁₆ l₁₇ l₁₈ : ℕ) where
+    module _ (C : Calls 𝓤 H) (Λ : Loops 𝓤 H) (fm : FmC 𝓤 H (W .laws) C)
+        (known-in : Triple 𝓤 (C #rows-in) (In 𝓤 H A mem run)) (known-other : Triple 𝓤 (C #other) (Other 𝓤 H A mem run))
+        (known-kept : Triple 𝓤 (C callee) (Kp 𝓤 H A rule)) (known-out : Triple 𝓤 (C #rows-out) (Out 𝓤 H A mem run))
+        (l₀ l₁ l₂ l₃ l₄ l₅ l₆ l₇ l₈ l₉ l₁₀ l₁₁ l₁₂ l₁₃ l₁₄ l₁₅ l₁₆ l₁₇ l₁₈ : ℕ) where
       abbrev En : Env 𝓤 H
       En = (N′.mir, l₀) ∷ (refTy, l₁) ∷ (slice, l₂) ∷ (Ak′.mir, l₃) ∷ (areaTy, l₄) ∷ (arr, l₅) ∷ (K′.mir, l₆) ∷ (arr, l₇) ∷ (word, l₈) ∷ (tyBool, l₉) ∷ (word, l₁₀) ∷ (shrTy, l₁₁) ∷ (
-        sliceTy shrTy,
+        sliceTy
+            shrTy,
         l₁₂,
       ) ∷ (Hd′.mir, l₁₃) ∷ (mut8, l₁₄) ∷ (sliceTy mut8, l₁₅) ∷ (tyUnit, l₁₆) ∷ (mutTy, l₁₇) ∷ (sliceTy mutTy, l₁₈) ∷ []
 
       at-end : length ys ≡ 63 → (k : Kept) (v : Val) → Is K.the-row k (v ∷ []) → (az : List ℕ) → length az ≡ length ar → Left k az → (u : Val) (zs : List Row) → zs ≡ k .rows → length zs ≡ length
-          ys → Sq W (‵ (froom (N′.mir) l₀ 0) ∷ ‵ (fat fullShare (refTy) l₁ 0 (vptr b₁ o₁)) ∷ ‵ (fat fullShare (slice) l₂ 0 sv) ∷ ‵ (fat fullShare (Ak′.mir) l₃ 0 av) ∷ ‵ (fat fullShare (areaTy) l₄
-          0 sa) ∷ ‵ (fat fullShare (arr) l₅ 0 (arr-val ys)) ∷ ‵ (fat fullShare (K′.mir) l₆ 0 (LL.val K.the-type K′.the-laws k)) ∷ ‵ (fat fullShare (arr) l₇ 0 (rows-val (k .rows))) ∷ ‵ (fat
-          fullShare (word) l₈ 0 (vint w64 (length ys))) ∷ ‵ (fat fullShare (tyBool) l₉ 0 (vbool (not (eqb (length ys) 63)))) ∷ ‵ (froom (word) l₁₀ 0) ∷ ‵ (fat fullShare (shrTy) l₁₁ 0 (vptr b o)) ∷
-          ‵ (fat fullShare (sliceTy shrTy) l₁₂ 0 sv) ∷ ‵ (fat fullShare (Hd′.mir) l₁₃ 0 (only (head-vals h))) ∷ ‵ (fat fullShare (mut8) l₁₄ 0 (vptr b₃ o₃)) ∷ ‵ (fat fullShare (sliceTy mut8) l₁₅ 0
-          sa) ∷ ‵ (fat fullShare (tyUnit) l₁₆ 0 u) ∷ ‵ (fat fullShare (mutTy) l₁₇ 0 (vptr b o)) ∷ ‵ (fat fullShare (sliceTy mutTy) l₁₈ 0 sv) ∷ ‵ (fdies (N′.mir) l₀) ∷ ‵ (fdies (refTy) l₁) ∷ ‵
-          (fdies (slice) l₂) ∷ ‵ (fdies (Ak′.mir) l₃) ∷ ‵ (fdies (areaTy) l₄) ∷ ‵ (fdies (arr) l₅) ∷ ‵ (fdies (K′.mir) l₆) ∷ ‵ (fdies (arr) l₇) ∷ ‵ (fdies (word) l₈) ∷ ‵ (fdies (tyBool) l₉) ∷ ‵
-          (fdies (word) l₁₀) ∷ ‵ (fdies (shrTy) l₁₁) ∷ ‵ (fdies (sliceTy shrTy) l₁₂) ∷ ‵ (fdies (Hd′.mir) l₁₃) ∷ ‵ (fdies (mut8) l₁₄) ∷ ‵ (fdies (sliceTy mut8) l₁₅) ∷ ‵ (fdies (tyUnit) l₁₆) ∷ ‵
-          (fdies (mutTy) l₁₇) ∷ ‵ (fdies (sliceTy mutTy) l₁₈) ∷ ‵ (flft κ₁ q₁) ∷ ‵ (flft κ₂ q₂) ∷ ‵ (flft κ₃ q₃) ∷ ‵ (fobs γ₁ (headT .coded .code (k .head))) ∷ ‵ (fbor κ₁ (BodyAt (inMem headT) b₁
-          o₁ γ₁)) ∷ ‵ (finally rowT γ zs) ∷ ‵ (finally u8 γ₃ az) ∷ [])
+          ys → Sq W (‵ (froom (N′.mir) l₀ 0) ∷ ‵ (fat fullShare (refTy) l₁ 0 (vptr b₁ o₁)) ∷ ‵ (fat fullShare (slice) l₂ 0 sv) ∷ ‵ (fat fullShare (Ak′.mir) l₃ 0 av) ∷ ‵ (fat fullShare (areaTy)
+          l₄ 0 sa) ∷ ‵ (fat fullShare (arr) l₅ 0 (arr-val ys)) ∷ ‵ (fat fullShare (K′.mir) l₆ 0 (LL.val K.the-type K′.the-laws k)) ∷ ‵ (fat fullShare (arr) l₇ 0 (rows-val (k .rows))) ∷ ‵ (fat
+          fullShare (word) l₈ 0 (vint w64 (length ys))) ∷ ‵ (fat fullShare (tyBool) l₉ 0 (vbool (not (eqb (length ys) 63)))) ∷ ‵ (froom (word) l₁₀ 0) ∷ ‵ (fat fullShare (shrTy) l₁₁ 0 (vptr b o))
+          ∷ ‵ (fat fullShare (sliceTy shrTy) l₁₂ 0 sv) ∷ ‵ (fat fullShare (Hd′.mir) l₁₃ 0 (only (head-vals h))) ∷ ‵ (fat fullShare (mut8) l₁₄ 0 (vptr b₃ o₃)) ∷ ‵ (fat fullShare (sliceTy mut8)
+          l₁₅ 0 sa) ∷ ‵ (fat fullShare (tyUnit) l₁₆ 0 u) ∷ ‵ (fat fullShare (mutTy) l₁₇ 0 (vptr b o)) ∷ ‵ (fat fullShare (sliceTy mutTy) l₁₈ 0 sv) ∷ ‵ (fdies (N′.mir) l₀) ∷ ‵ (fdies (refTy) l₁)
+          ∷ ‵ (fdies (slice) l₂) ∷ ‵ (fdies (Ak′.mir) l₃) ∷ ‵ (fdies (areaTy) l₄) ∷ ‵ (fdies (arr) l₅) ∷ ‵ (fdies (K′.mir) l₆) ∷ ‵ (fdies (arr) l₇) ∷ ‵ (fdies (word) l₈) ∷ ‵ (fdies (tyBool) l₉)
+          ∷ ‵ (fdies (word) l₁₀) ∷ ‵ (fdies (shrTy) l₁₁) ∷ ‵ (fdies (sliceTy shrTy) l₁₂) ∷ ‵ (fdies (Hd′.mir) l₁₃) ∷ ‵ (fdies (mut8) l₁₄) ∷ ‵ (fdies (sliceTy mut8) l₁₅) ∷ ‵ (fdies (tyUnit) l₁₆)
+          ∷ ‵ (fdies (mutTy) l₁₇) ∷ ‵ (fdies (sliceTy mutTy) l₁₈) ∷ ‵ (flft κ₁ q₁) ∷ ‵ (flft κ₂ q₂) ∷ ‵ (flft κ₃ q₃) ∷ ‵ (fobs γ₁ (headT .coded .code (k .head))) ∷ ‵ (fbor κ₁ (BodyAt (inMem
+          headT) b₁ o₁ γ₁)) ∷ ‵ (finally rowT γ zs) ∷ ‵ (finally u8 γ₃ az) ∷ [])
           (runs C Λ En (t-16 callee size) (atRet En Post))
       at-end same k v isk az la e₂ u zs e₃ l =
           assigns ! (of-opd ! (load ! (from ! (fld ! refl (stop !))) (look-in ! 6 (sub ! 0 refl (whole !))))) (from ! (stop !)) (init ! 0 refl (answer-typed 𝓤 H A W (k .answer) (answer-is k (v ∷
@@ -283,7 +296,8 @@ module _ (rule : Lent → Asked → Outcome) (size : ℕ) (small : T (ltb size (
           move ! (0 ∷ 9 ∷ []) $ free1 ! $ move ! (0 ∷ 8 ∷ []) $ free1 ! $ move ! (0 ∷ 7 ∷ []) $ free1 ! $ move ! (0 ∷ 6 ∷ []) $ free1 ! $ move ! (0 ∷ 5 ∷ []) $ free1 ! $
           move ! (0 ∷ 4 ∷ []) $ free1 ! $ move ! (0 ∷ 3 ∷ []) $ free1 ! $ move ! (0 ∷ 2 ∷ []) $ free1 ! $ free1 ! $ free0 ! $
           keep ! (0 ∷ 1 ∷ 2 ∷ 3 ∷ 4 ∷ 5 ∷ 6 ∷ []) $ by ! (exits (k .answer) (answer-val (k .answer)) (k .head) zs az (answer-is k (v ∷ []) isk) (ap (λ (l′ : List Row). record {
-            answer = k .answer;
+            answer = k
+                .answer;
             head = k .head;
             rows = l′;
             area = az;
@@ -293,100 +307,96 @@ module _ (rule : Lent → Asked → Outcome) (size : ℕ) (small : T (ltb size (
           (vptr b₁ o₁)) ∷ ‵ (fat fullShare (slice) l₂ 0 sv) ∷ ‵ (fat fullShare (Ak′.mir) l₃ 0 av) ∷ ‵ (fat fullShare (areaTy) l₄ 0 sa) ∷ ‵ (fat fullShare (arr) l₅ 0 (arr-val ys)) ∷ ‵ (fat
           fullShare (K′.mir) l₆ 0 (LL.val K.the-type K′.the-laws k)) ∷ ‵ (fat fullShare (arr) l₇ 0 (rows-val (k .rows))) ∷ ‵ (fat fullShare (word) l₈ 0 (vint w64 (length ys))) ∷ ‵ (fat fullShare
           (tyBool) l₉ 0 (vbool (not (eqb (length ys) 63)))) ∷ ‵ (froom (word) l₁₀ 0) ∷ ‵ (fat fullShare (shrTy) l₁₁ 0 (vptr b o)) ∷ ‵ (fat fullShare (sliceTy shrTy) l₁₂ 0 sv) ∷ ‵ (fat fullShare
-          (Hd′.mir) l₁₃ 0 (only (head-vals h))) ∷ ‵ (fat fullShare (mut8) l₁₄ 0 (vptr b₃ o₃)) ∷ ‵ (fat fullShare (sliceTy mut8) l₁₅ 0 sa) ∷ ‵ (froom (tyUnit) l₁₆ 0) ∷ ‵ (fat fullShare (mutTy) l₁₇
-          0 (vptr b o)) ∷ ‵ (fat fullShare (sliceTy mutTy) l₁₈ 0 sv) ∷ ‵ (fdies (N′.mir) l₀) ∷ ‵ (fdies (refTy) l₁) ∷ ‵ (fdies (slice) l₂) ∷ ‵ (fdies (Ak′.mir) l₃) ∷ ‵ (fdies (areaTy) l₄) ∷ ‵
-          (fdies (arr) l₅) ∷ ‵ (fdies (K′.mir) l₆) ∷ ‵ (fdies (arr) l₇) ∷ ‵ (fdies (word) l₈) ∷ ‵ (fdies (tyBool) l₉) ∷ ‵ (fdies (word) l₁₀) ∷ ‵ (fdies (shrTy) l₁₁) ∷ ‵ (fdies (sliceTy shrTy) l₁₂)
-          ∷ ‵ (fdies (Hd′.mir) l₁₃) ∷ ‵ (fdies (mut8) l₁₄) ∷ ‵ (fdies (sliceTy mut8) l₁₅) ∷ ‵ (fdies (tyUnit) l₁₆) ∷ ‵ (fdies (mutTy) l₁₇) ∷ ‵ (fdies (sliceTy mutTy) l₁₈) ∷ ‵ (fobs γ₁ (headT
-          .coded .code (k .head))) ∷ ‵ (fbor κ₁ (BodyAt (inMem headT) b₁ o₁ γ₁)) ∷ ‵ (flft κ₁ q₁) ∷ ‵ (fobs γ (codedHoleys rowT .code (heres rowT ys))) ∷ ‵ (fbor κ₂ (HeldS rowT (length ys) b o γ))
-          ∷ ‵ (flft κ₂ q₂) ∷ ‵ (flft κ₃ q₃) ∷ ‵ (finally u8 γ₃ az) ∷ [])
+          (Hd′.mir) l₁₃ 0 (only (head-vals h))) ∷ ‵ (fat fullShare (mut8) l₁₄ 0 (vptr b₃ o₃)) ∷ ‵ (fat fullShare (sliceTy mut8) l₁₅ 0 sa) ∷ ‵ (froom (tyUnit) l₁₆ 0) ∷ ‵ (fat fullShare (mutTy)
+          l₁₇ 0 (vptr b o)) ∷ ‵ (fat fullShare (sliceTy mutTy) l₁₈ 0 sv) ∷ ‵ (fdies (N′.mir) l₀) ∷ ‵ (fdies (refTy) l₁) ∷ ‵ (fdies (slice) l₂) ∷ ‵ (fdies (Ak′.mir) l₃) ∷ ‵ (fdies (areaTy) l₄) ∷
+          ‵ (fdies (arr) l₅) ∷ ‵ (fdies (K′.mir) l₆) ∷ ‵ (fdies (arr) l₇) ∷ ‵ (fdies (word) l₈) ∷ ‵ (fdies (tyBool) l₉) ∷ ‵ (fdies (word) l₁₀) ∷ ‵ (fdies (shrTy) l₁₁) ∷ ‵ (fdies (sliceTy shrTy)
+          l₁₂) ∷ ‵ (fdies (Hd′.mir) l₁₃) ∷ ‵ (fdies (mut8) l₁₄) ∷ ‵ (fdies (sliceTy mut8) l₁₅) ∷ ‵ (fdies (tyUnit) l₁₆) ∷ ‵ (fdies (mutTy) l₁₇) ∷ ‵ (fdies (sliceTy mutTy) l₁₈) ∷ ‵ (fobs γ₁
+          (headT .coded .code (k .head))) ∷ ‵ (fbor κ₁ (BodyAt (inMem headT) b₁ o₁ γ₁)) ∷ ‵ (flft κ₁ q₁) ∷ ‵ (fobs γ (codedHoleys rowT .code (heres rowT ys))) ∷ ‵ (fbor κ₂ (HeldS rowT (length
+          ys) b o γ)) ∷ ‵ (flft κ₂ q₂) ∷ ‵ (flft κ₃ q₃) ∷ ‵ (finally u8 γ₃ az) ∷ [])
           (runs C Λ En (t-15 callee size) (atRet En Post))
       at-out same k v isk az la e₂ =
           move ! (41 ∷ 42 ∷ []) $ fjoin ! $ pureI ! (at-slice rowT xs (sv ∷ [])) (tt, (tt, tt)) (refl, gn) $ fjoin ! $ move ! (42 ∷ 0 ∷ []) $
           use2 W (raw (Out 𝓤 H A mem run .pre (to-out 𝓤 H A W mem run b o ys κ₂ q₂ γ k))) (goes-out 𝓤 H A W mem run b o ys κ₂ q₂ γ same k (rows-is k (v ∷ []) isk)) $
-          calls-at ! fm (Out 𝓤 H A mem run) known-out (to-out 𝓤 H A W mem run b o ys κ₂ q₂ γ k) (and-then ! (load ! (from ! (stop !)) (look ! 19 refl)) (and-then ! (load ! (from ! (stop !)) (look
-          ! 8 refl)) (no-more !))) (λ u.
+          calls-at ! fm (Out 𝓤 H A mem run) known-out (to-out 𝓤 H A W mem run b o ys κ₂ q₂ γ k) (and-then ! (load ! (from ! (stop !)) (look ! 19 refl)) (and-then ! (load ! (from ! (stop !))
+          (look ! 8 refl)) (no-more !))) (λ u.
           use1 W (later (some (λ (r′ : Unit {0}). ((‵ (flft κ₂ q₂) ⊛ ‵ ftrue) ⊛ ‵ (Nothing .own r′ (u ∷ []))) ⊛ raw (ensured 𝓤 H A rows-out.ended (rows-out.clauses 𝓤 H A mem run) (κ₂, tt) (
             xs,
-            (
-              k
-                  .rows,
-              tt,
-            ),
+            (k .rows, tt),
           ) tt r′)))) (id⊢ 𝓤 _) $ await ! tt $ pick ! (λ r′.
-          split ! $ move ! (1 ∷ []) $ use1 W (some (λ (zs : List Row × (Unit {0} × Unit {0})). ‵ (lasts rows-out.ended (κ₂, tt) (xs, (k .rows, tt)) zs) ⊛ raw (fact 𝓤 (zs .0 ≡ k .rows)))) (id⊢ 𝓤 _)
-          $ pick ! (λ zs. split ! $
+          split ! $ move ! (1 ∷ []) $ use1 W (some (λ (zs : List Row × (Unit {0} × Unit {0})). ‵ (lasts rows-out.ended (κ₂, tt) (xs, (k .rows, tt)) zs) ⊛ raw (fact 𝓤 (zs .0 ≡ k .rows)))) (id⊢ 𝓤
+          _) $ pick ! (λ zs. split ! $
           move ! (1 ∷ []) $ heard ! (zs .0 ≡ k .rows) (λ e₃. fsplit ! $ fsplit ! $ move ! (1 ∷ []) $ feqL ! (λ l.
           move ! (2 ∷ []) $ split ! $ move ! (1 ∷ []) $ feqL ! (λ eu. land ! (from ! (stop !)) (init ! 19 refl (unit-typed u eu)) $ split ! $
-          keep ! (4 ∷ 5 ∷ 6 ∷ 7 ∷ 8 ∷ 9 ∷ 10 ∷ 11 ∷ 12 ∷ 13 ∷ 14 ∷ 15 ∷ 16 ∷ 17 ∷ 18 ∷ 19 ∷ 20 ∷ 21 ∷ 22 ∷ 23 ∷ 24 ∷ 25 ∷ 26 ∷ 27 ∷ 28 ∷ 29 ∷ 30 ∷ 31 ∷ 32 ∷ 33 ∷ 34 ∷ 35 ∷ 36 ∷ 37 ∷ 38 ∷ 39 ∷ 40 ∷
-          41 ∷ 44 ∷ 0 ∷ 45 ∷ 42 ∷ 43 ∷ 2 ∷ 46 ∷ []) $ at-end same k v isk az la e₂ u (zs .0) e₃ l))))))
+          keep ! (4 ∷ 5 ∷ 6 ∷ 7 ∷ 8 ∷ 9 ∷ 10 ∷ 11 ∷ 12 ∷ 13 ∷ 14 ∷ 15 ∷ 16 ∷ 17 ∷ 18 ∷ 19 ∷ 20 ∷ 21 ∷ 22 ∷ 23 ∷ 24 ∷ 25 ∷ 26 ∷ 27 ∷ 28 ∷ 29 ∷ 30 ∷ 31 ∷ 32 ∷ 33 ∷ 34 ∷ 35 ∷ 36 ∷ 37 ∷ 38 ∷ 39 ∷ 40
+          ∷ 41 ∷ 44 ∷ 0 ∷ 45 ∷ 42 ∷ 43 ∷ 2 ∷ 46 ∷ []) $ at-end same k v isk az la e₂ u (zs .0) e₃ l))))))
 
-      at-store : length ys ≡ 63 → (k : Kept) (v : Val) → Is K.the-row k (v ∷ []) → (az : List ℕ) → length az ≡ length ar → Left k az → Sq W (‵ (froom (N′.mir) l₀ 0) ∷ ‵ (fat fullShare (refTy) l₁ 0
-          (vptr b₁ o₁)) ∷ ‵ (fat fullShare (slice) l₂ 0 sv) ∷ ‵ (fat fullShare (Ak′.mir) l₃ 0 av) ∷ ‵ (fat fullShare (areaTy) l₄ 0 sa) ∷ ‵ (fat fullShare (arr) l₅ 0 (arr-val ys)) ∷ ‵ (fat
-          fullShare (K′.mir) l₆ 0 (LL.val K.the-type K′.the-laws k)) ∷ ‵ (froom (arr) l₇ 0) ∷ ‵ (fat fullShare (word) l₈ 0 (vint w64 (length ys))) ∷ ‵ (fat fullShare (tyBool) l₉ 0 (vbool (not (eqb
-          (length ys) 63)))) ∷ ‵ (froom (word) l₁₀ 0) ∷ ‵ (fat fullShare (shrTy) l₁₁ 0 (vptr b o)) ∷ ‵ (fat fullShare (sliceTy shrTy) l₁₂ 0 sv) ∷ ‵ (fat fullShare (Hd′.mir) l₁₃ 0 (only (head-vals
-          h))) ∷ ‵ (fat fullShare (mut8) l₁₄ 0 (vptr b₃ o₃)) ∷ ‵ (fat fullShare (sliceTy mut8) l₁₅ 0 sa) ∷ ‵ (froom (tyUnit) l₁₆ 0) ∷ ‵ (froom (mutTy) l₁₇ 0) ∷ ‵ (froom (sliceTy mutTy) l₁₈ 0) ∷ ‵
-          (fdies (N′.mir) l₀) ∷ ‵ (fdies (refTy) l₁) ∷ ‵ (fdies (slice) l₂) ∷ ‵ (fdies (Ak′.mir) l₃) ∷ ‵ (fdies (areaTy) l₄) ∷ ‵ (fdies (arr) l₅) ∷ ‵ (fdies (K′.mir) l₆) ∷ ‵ (fdies (arr) l₇) ∷ ‵
-          (fdies (word) l₈) ∷ ‵ (fdies (tyBool) l₉) ∷ ‵ (fdies (word) l₁₀) ∷ ‵ (fdies (shrTy) l₁₁) ∷ ‵ (fdies (sliceTy shrTy) l₁₂) ∷ ‵ (fdies (Hd′.mir) l₁₃) ∷ ‵ (fdies (mut8) l₁₄) ∷ ‵ (fdies
-          (sliceTy mut8) l₁₅) ∷ ‵ (fdies (tyUnit) l₁₆) ∷ ‵ (fdies (mutTy) l₁₇) ∷ ‵ (fdies (sliceTy mutTy) l₁₈) ∷ ‵ (cellAt fullShare (headT .mir) (head-vals h) b₁ o₁) ∷ ‵ (fobor κ₁ q₁ (BodyAt
-          (inMem headT) b₁ o₁ γ₁)) ∷ ‵ (fobs γ₁ (headT .coded .code h)) ∷ ‵ (fauth γ₁ (headT .coded .code h)) ∷ ‵ (fobs γ (codedHoleys rowT .code (heres rowT ys))) ∷ ‵ (fbor κ₂ (HeldS rowT (length
-          ys) b o γ)) ∷ ‵ (flft κ₂ q₂) ∷ ‵ (flft κ₃ q₃) ∷ ‵ (finally u8 γ₃ az) ∷ [])
+      at-store : length ys ≡ 63 → (k : Kept) (v : Val) → Is K.the-row k (v ∷ []) → (az : List ℕ) → length az ≡ length ar → Left k az → Sq W (‵ (froom (N′.mir) l₀ 0) ∷ ‵ (fat fullShare (refTy) l₁
+          0 (vptr b₁ o₁)) ∷ ‵ (fat fullShare (slice) l₂ 0 sv) ∷ ‵ (fat fullShare (Ak′.mir) l₃ 0 av) ∷ ‵ (fat fullShare (areaTy) l₄ 0 sa) ∷ ‵ (fat fullShare (arr) l₅ 0 (arr-val ys)) ∷ ‵ (fat
+          fullShare (K′.mir) l₆ 0 (LL.val K.the-type K′.the-laws k)) ∷ ‵ (froom (arr) l₇ 0) ∷ ‵ (fat fullShare (word) l₈ 0 (vint w64 (length ys))) ∷ ‵ (fat fullShare (tyBool) l₉ 0 (vbool (not
+          (eqb (length ys) 63)))) ∷ ‵ (froom (word) l₁₀ 0) ∷ ‵ (fat fullShare (shrTy) l₁₁ 0 (vptr b o)) ∷ ‵ (fat fullShare (sliceTy shrTy) l₁₂ 0 sv) ∷ ‵ (fat fullShare (Hd′.mir) l₁₃ 0 (only
+          (head-vals h))) ∷ ‵ (fat fullShare (mut8) l₁₄ 0 (vptr b₃ o₃)) ∷ ‵ (fat fullShare (sliceTy mut8) l₁₅ 0 sa) ∷ ‵ (froom (tyUnit) l₁₆ 0) ∷ ‵ (froom (mutTy) l₁₇ 0) ∷ ‵ (froom (sliceTy
+          mutTy) l₁₈ 0) ∷ ‵ (fdies (N′.mir) l₀) ∷ ‵ (fdies (refTy) l₁) ∷ ‵ (fdies (slice) l₂) ∷ ‵ (fdies (Ak′.mir) l₃) ∷ ‵ (fdies (areaTy) l₄) ∷ ‵ (fdies (arr) l₅) ∷ ‵ (fdies (K′.mir) l₆) ∷ ‵
+          (fdies (arr) l₇) ∷ ‵ (fdies (word) l₈) ∷ ‵ (fdies (tyBool) l₉) ∷ ‵ (fdies (word) l₁₀) ∷ ‵ (fdies (shrTy) l₁₁) ∷ ‵ (fdies (sliceTy shrTy) l₁₂) ∷ ‵ (fdies (Hd′.mir) l₁₃) ∷ ‵ (fdies
+          (mut8) l₁₄) ∷ ‵ (fdies (sliceTy mut8) l₁₅) ∷ ‵ (fdies (tyUnit) l₁₆) ∷ ‵ (fdies (mutTy) l₁₇) ∷ ‵ (fdies (sliceTy mutTy) l₁₈) ∷ ‵ (cellAt fullShare (headT .mir) (head-vals h) b₁ o₁) ∷ ‵
+          (fobor κ₁ q₁ (BodyAt (inMem headT) b₁ o₁ γ₁)) ∷ ‵ (fobs γ₁ (headT .coded .code h)) ∷ ‵ (fauth γ₁ (headT .coded .code h)) ∷ ‵ (fobs γ (codedHoleys rowT .code (heres rowT ys))) ∷ ‵ (fbor
+          κ₂ (HeldS rowT (length ys) b o γ)) ∷ ‵ (flft κ₂ q₂) ∷ ‵ (flft κ₃ q₃) ∷ ‵ (finally u8 γ₃ az) ∷ [])
           (runs C Λ En (t-11 callee size) (atRet En Post))
       at-store same k v isk az la e₂ =
-          assigns ! (of-opd ! (load ! (from ! (fld ! refl (stop !))) (look-in ! 6 (sub ! 1 refl (whole !))))) (from ! (hop ! (look ! 1 refl) (stop !))) (store-raw ! 38 refl (head-typed 𝓤 H A W (k
-          .head) (head-is k (v ∷ []) isk))) $
+          assigns ! (of-opd ! (load ! (from ! (fld ! refl (stop !))) (look-in ! 6 (sub ! 1 refl (whole !))))) (from ! (hop ! (look ! 1 refl) (stop !))) (store-raw ! 38 refl (head-typed 𝓤 H A W
+          (k .head) (head-is k (v ∷ []) isk))) $
           owned ! headT (Is headT) (LL.makes Hd.the-type Hd′.the-plain 𝓤 H A) (k .head) (head-vals (k .head)) (head-is k (v ∷ []) isk) $ move ! (39 ∷ 0 ∷ 40 ∷ 41 ∷ 42 ∷ []) $
           closes ! tt headT (k .head) (head-vals (k .head)) b₁ o₁ $
           assigns ! (of-opd ! (load ! (from ! (fld ! refl (stop !))) (look-in ! 9 (sub ! 2 refl (whole !))))) (from ! (stop !)) (init ! 10 refl (rows-typed 𝓤 H A W (k .rows) (rows-val (k .rows))
           (rows-is k (v ∷ []) isk))) $
           assigns ! (addr ! (from ! (fld ! refl (hop ! (look-in ! 5 (sub ! 0 refl (whole !))) (stop !))))) (from ! (stop !)) (init ! 20 refl (tt, tt)) $
-          assigns ! (agg ! (and-then ! (load ! (from ! (stop !)) (look ! 20 refl)) (and-then ! (load ! (from ! (fld ! refl (stop !))) (look-in ! 5 (sub ! 1 refl (whole !)))) (no-more !)))) (from !
-          (stop !)) (init ! 21 refl (tt, (tt, (record { fits = gn .0 }, tt)))) $
-          keep ! (3 ∷ 4 ∷ 5 ∷ 6 ∷ 7 ∷ 8 ∷ 9 ∷ 10 ∷ 11 ∷ 12 ∷ 13 ∷ 14 ∷ 15 ∷ 16 ∷ 17 ∷ 18 ∷ 19 ∷ 20 ∷ 21 ∷ 22 ∷ 23 ∷ 24 ∷ 25 ∷ 26 ∷ 27 ∷ 28 ∷ 29 ∷ 30 ∷ 31 ∷ 32 ∷ 33 ∷ 34 ∷ 35 ∷ 36 ∷ 37 ∷ 38 ∷ 39 ∷
-          40 ∷ 0 ∷ 1 ∷ 2 ∷ 41 ∷ 42 ∷ 43 ∷ 44 ∷ 45 ∷ []) $ at-out same k v isk az la e₂
+          assigns ! (agg ! (and-then ! (load ! (from ! (stop !)) (look ! 20 refl)) (and-then ! (load ! (from ! (fld ! refl (stop !))) (look-in ! 5 (sub ! 1 refl (whole !)))) (no-more !)))) (from
+          ! (stop !)) (init ! 21 refl (tt, (tt, (record { fits = gn .0 }, tt)))) $
+          keep ! (3 ∷ 4 ∷ 5 ∷ 6 ∷ 7 ∷ 8 ∷ 9 ∷ 10 ∷ 11 ∷ 12 ∷ 13 ∷ 14 ∷ 15 ∷ 16 ∷ 17 ∷ 18 ∷ 19 ∷ 20 ∷ 21 ∷ 22 ∷ 23 ∷ 24 ∷ 25 ∷ 26 ∷ 27 ∷ 28 ∷ 29 ∷ 30 ∷ 31 ∷ 32 ∷ 33 ∷ 34 ∷ 35 ∷ 36 ∷ 37 ∷ 38 ∷ 39
+          ∷ 40 ∷ 0 ∷ 1 ∷ 2 ∷ 41 ∷ 42 ∷ 43 ∷ 44 ∷ 45 ∷ []) $ at-out same k v isk az la e₂
 
-      at-kept : length ys ≡ 63 → Is (Array rowT 63) ys (arr-val ys ∷ []) → Sq W (‵ (froom (N′.mir) l₀ 0) ∷ ‵ (fat fullShare (refTy) l₁ 0 (vptr b₁ o₁)) ∷ ‵ (fat fullShare (slice) l₂ 0 sv) ∷ ‵ (fat
-          fullShare (Ak′.mir) l₃ 0 av) ∷ ‵ (fat fullShare (areaTy) l₄ 0 sa) ∷ ‵ (fat fullShare (arr) l₅ 0 (arr-val ys)) ∷ ‵ (froom (K′.mir) l₆ 0) ∷ ‵ (froom (arr) l₇ 0) ∷ ‵ (fat fullShare (word)
-          l₈ 0 (vint w64 (length ys))) ∷ ‵ (fat fullShare (tyBool) l₉ 0 (vbool (not (eqb (length ys) 63)))) ∷ ‵ (froom (word) l₁₀ 0) ∷ ‵ (fat fullShare (shrTy) l₁₁ 0 (vptr b o)) ∷ ‵ (fat fullShare
-          (sliceTy shrTy) l₁₂ 0 sv) ∷ ‵ (froom (Hd′.mir) l₁₃ 0) ∷ ‵ (froom (mut8) l₁₄ 0) ∷ ‵ (froom (sliceTy mut8) l₁₅ 0) ∷ ‵ (froom (tyUnit) l₁₆ 0) ∷ ‵ (froom (mutTy) l₁₇ 0) ∷ ‵ (froom (sliceTy
-          mutTy) l₁₈ 0) ∷ ‵ (fdies (N′.mir) l₀) ∷ ‵ (fdies (refTy) l₁) ∷ ‵ (fdies (slice) l₂) ∷ ‵ (fdies (Ak′.mir) l₃) ∷ ‵ (fdies (areaTy) l₄) ∷ ‵ (fdies (arr) l₅) ∷ ‵ (fdies (K′.mir) l₆) ∷ ‵
-          (fdies (arr) l₇) ∷ ‵ (fdies (word) l₈) ∷ ‵ (fdies (tyBool) l₉) ∷ ‵ (fdies (word) l₁₀) ∷ ‵ (fdies (shrTy) l₁₁) ∷ ‵ (fdies (sliceTy shrTy) l₁₂) ∷ ‵ (fdies (Hd′.mir) l₁₃) ∷ ‵ (fdies (mut8)
-          l₁₄) ∷ ‵ (fdies (sliceTy mut8) l₁₅) ∷ ‵ (fdies (tyUnit) l₁₆) ∷ ‵ (fdies (mutTy) l₁₇) ∷ ‵ (fdies (sliceTy mutTy) l₁₈) ∷ ‵ (fobs γ₁ (headT .coded .code h)) ∷ ‵ (fbor κ₁ (BodyAt (inMem
-          headT) b₁ o₁ γ₁)) ∷ ‵ (flft κ₁ q₁) ∷ ‵ (fobs γ (codedHoleys rowT .code (heres rowT ys))) ∷ ‵ (fbor κ₂ (HeldS rowT (length ys) b o γ)) ∷ ‵ (flft κ₂ q₂) ∷ ‵ (fobs γ₃ (codedHoleys u8 .code
-          (heres u8 ar))) ∷ ‵ (fbor κ₃ (HeldS u8 (length ar) b₃ o₃ γ₃)) ∷ ‵ (flft κ₃ q₃) ∷ [])
+      at-kept : length ys ≡ 63 → Is (Array rowT 63) ys (arr-val ys ∷ []) → Sq W (‵ (froom (N′.mir) l₀ 0) ∷ ‵ (fat fullShare (refTy) l₁ 0 (vptr b₁ o₁)) ∷ ‵ (fat fullShare (slice) l₂ 0 sv) ∷ ‵
+          (fat fullShare (Ak′.mir) l₃ 0 av) ∷ ‵ (fat fullShare (areaTy) l₄ 0 sa) ∷ ‵ (fat fullShare (arr) l₅ 0 (arr-val ys)) ∷ ‵ (froom (K′.mir) l₆ 0) ∷ ‵ (froom (arr) l₇ 0) ∷ ‵ (fat fullShare
+          (word) l₈ 0 (vint w64 (length ys))) ∷ ‵ (fat fullShare (tyBool) l₉ 0 (vbool (not (eqb (length ys) 63)))) ∷ ‵ (froom (word) l₁₀ 0) ∷ ‵ (fat fullShare (shrTy) l₁₁ 0 (vptr b o)) ∷ ‵ (fat
+          fullShare (sliceTy shrTy) l₁₂ 0 sv) ∷ ‵ (froom (Hd′.mir) l₁₃ 0) ∷ ‵ (froom (mut8) l₁₄ 0) ∷ ‵ (froom (sliceTy mut8) l₁₅ 0) ∷ ‵ (froom (tyUnit) l₁₆ 0) ∷ ‵ (froom (mutTy) l₁₇ 0) ∷ ‵
+          (froom (sliceTy mutTy) l₁₈ 0) ∷ ‵ (fdies (N′.mir) l₀) ∷ ‵ (fdies (refTy) l₁) ∷ ‵ (fdies (slice) l₂) ∷ ‵ (fdies (Ak′.mir) l₃) ∷ ‵ (fdies (areaTy) l₄) ∷ ‵ (fdies (arr) l₅) ∷ ‵ (fdies
+          (K′.mir) l₆) ∷ ‵ (fdies (arr) l₇) ∷ ‵ (fdies (word) l₈) ∷ ‵ (fdies (tyBool) l₉) ∷ ‵ (fdies (word) l₁₀) ∷ ‵ (fdies (shrTy) l₁₁) ∷ ‵ (fdies (sliceTy shrTy) l₁₂) ∷ ‵ (fdies (Hd′.mir) l₁₃)
+          ∷ ‵ (fdies (mut8) l₁₄) ∷ ‵ (fdies (sliceTy mut8) l₁₅) ∷ ‵ (fdies (tyUnit) l₁₆) ∷ ‵ (fdies (mutTy) l₁₇) ∷ ‵ (fdies (sliceTy mutTy) l₁₈) ∷ ‵ (fobs γ₁ (headT .coded .code h)) ∷ ‵ (fbor κ₁
+          (BodyAt (inMem headT) b₁ o₁ γ₁)) ∷ ‵ (flft κ₁ q₁) ∷ ‵ (fobs γ (codedHoleys rowT .code (heres rowT ys))) ∷ ‵ (fbor κ₂ (HeldS rowT (length ys) b o γ)) ∷ ‵ (flft κ₂ q₂) ∷ ‵ (fobs γ₃
+          (codedHoleys u8 .code (heres u8 ar))) ∷ ‵ (fbor κ₃ (HeldS u8 (length ar) b₃ o₃ γ₃)) ∷ ‵ (flft κ₃ q₃) ∷ [])
           (runs C Λ En (t-7 callee size) (atRet En Post))
       at-kept same isr =
           move ! (38 ∷ 39 ∷ 40 ∷ []) $ opens ! tt headT {h = h} b₁ o₁ (λ vs. spelt ! headT (Is headT) (shows 𝓤 H A headT) head-vals head-tells fullShare h vs b₁ o₁ $
           move ! (1 ∷ []) $ peeks ! headT (Is headT) (shows 𝓤 H A headT) h (head-vals h) (λ ish. drop ! $
           assigns ! (of-opd ! (load ! (from ! (hop ! (look ! 5 refl) (stop !))) (look-raw ! 0 refl))) (from ! (stop !)) (init ! 17 refl (head-typed 𝓤 H A W h ish)) $
           assigns ! (addr ! (from ! (fld ! refl (hop ! (look-in ! 8 (sub ! 0 refl (whole !))) (stop !))))) (from ! (stop !)) (init ! 18 refl (tt, tt)) $
-          assigns ! (agg ! (and-then ! (load ! (from ! (stop !)) (look ! 18 refl)) (and-then ! (load ! (from ! (fld ! refl (stop !))) (look-in ! 8 (sub ! 1 refl (whole !)))) (no-more !)))) (from !
-          (stop !)) (init ! 19 refl (tt, (tt, (record { fits = ga .0 }, tt)))) $
+          assigns ! (agg ! (and-then ! (load ! (from ! (stop !)) (look ! 18 refl)) (and-then ! (load ! (from ! (fld ! refl (stop !))) (look-in ! 8 (sub ! 1 refl (whole !)))) (no-more !)))) (from
+          ! (stop !)) (init ! 19 refl (tt, (tt, (record { fits = ga .0 }, tt)))) $
           move ! (45 ∷ 46 ∷ []) $ fjoin ! $ pureI ! (at-slice u8 xa (sa ∷ [])) (tt, (tt, tt)) (refl, ga) $ fjoin ! $ move ! (46 ∷ 0 ∷ []) $
           use2 W (raw (Kp 𝓤 H A rule .pre to-kept)) (goes-kept ish isr) $
-          calls-at ! fm (Kp 𝓤 H A rule) known-kept to-kept (and-then ! (load ! (from ! (stop !)) (look ! 18 refl)) (and-then ! (load ! (from ! (stop !)) (look ! 10 refl)) (and-then ! (load ! (from
-          ! (stop !)) (look ! 8 refl)) (and-then ! (load ! (from ! (stop !)) (look ! 20 refl)) (no-more !))))) (λ v.
+          calls-at ! fm (Kp 𝓤 H A rule) known-kept to-kept (and-then ! (load ! (from ! (stop !)) (look ! 18 refl)) (and-then ! (load ! (from ! (stop !)) (look ! 10 refl)) (and-then ! (load !
+          (from ! (stop !)) (look ! 8 refl)) (and-then ! (load ! (from ! (stop !)) (look ! 20 refl)) (no-more !))))) (λ v.
           use1 W (later (some (λ (k : Kept). ((‵ (flft κ₃ q₃) ⊛ ‵ ftrue) ⊛ ‵ (K.the-row .own k (v ∷ []))) ⊛ raw (ensured 𝓤 H A kept.ended (kept-clauses 𝓤 rule) (κ₃, tt) kept-args tt k)))) (id⊢ 𝓤
           _) $ await ! tt $ pick ! (λ k.
-          split ! $ move ! (1 ∷ []) $ use1 W (some (λ (ws : Unit {0} × (Unit {0} × (Unit {0} × (List ℕ × Unit {0})))). ‵ (lasts kept.ended (κ₃, tt) kept-args ws) ⊛ raw (fact 𝓤 (Left k (ws .1 .1 .1
-          .0))))) (id⊢ 𝓤 _) $ pick ! (λ ws. split ! $
+          split ! $ move ! (1 ∷ []) $ use1 W (some (λ (ws : Unit {0} × (Unit {0} × (Unit {0} × (List ℕ × Unit {0})))). ‵ (lasts kept.ended (κ₃, tt) kept-args ws) ⊛ raw (fact 𝓤 (Left k (ws .1 .1
+          .1 .0))))) (id⊢ 𝓤 _) $ pick ! (λ ws. split ! $
           move ! (1 ∷ []) $ heard ! (Left k (ws .1 .1 .1 .0)) (λ e₂. fsplit ! $ move ! (1 ∷ []) $ fsplit ! $ move ! (1 ∷ []) $ fsplit ! $ move ! (1 ∷ []) $ fsplit ! $ fsplit ! $
           move ! (1 ∷ []) $ feqL ! (λ la.
           move ! (5 ∷ []) $ split ! $ move ! (1 ∷ []) $
           peeks ! K.the-row (Is K.the-row) (shows 𝓤 H A K.the-row) k (v ∷ []) (λ isk. drop ! $
           land ! (from ! (stop !)) (init ! 16 refl (LL.lawful K.the-type K′.the-laws 𝓤 H A W .typed k (v ∷ []) isk .0)) $
           rewrite ! 16 (λ (us : List Val). ‵ (fat fullShare K′.mir l₆ 0 (only us))) (LL.tells K.the-type K′.the-laws k (v ∷ []) isk) refl $
-          split ! $ keep ! (11 ∷ 12 ∷ 13 ∷ 14 ∷ 15 ∷ 16 ∷ 17 ∷ 18 ∷ 19 ∷ 20 ∷ 21 ∷ 22 ∷ 23 ∷ 24 ∷ 25 ∷ 26 ∷ 27 ∷ 28 ∷ 29 ∷ 30 ∷ 31 ∷ 32 ∷ 33 ∷ 34 ∷ 35 ∷ 36 ∷ 37 ∷ 38 ∷ 39 ∷ 40 ∷ 41 ∷ 42 ∷ 43 ∷ 44
-          ∷ 45 ∷ 46 ∷ 47 ∷ 48 ∷ 7 ∷ 8 ∷ 9 ∷ 10 ∷ 49 ∷ 50 ∷ 51 ∷ 0 ∷ 2 ∷ []) $ at-store same k v isk (ws .1 .1 .1 .0) la e₂))))))))
+          split ! $ keep ! (11 ∷ 12 ∷ 13 ∷ 14 ∷ 15 ∷ 16 ∷ 17 ∷ 18 ∷ 19 ∷ 20 ∷ 21 ∷ 22 ∷ 23 ∷ 24 ∷ 25 ∷ 26 ∷ 27 ∷ 28 ∷ 29 ∷ 30 ∷ 31 ∷ 32 ∷ 33 ∷ 34 ∷ 35 ∷ 36 ∷ 37 ∷ 38 ∷ 39 ∷ 40 ∷ 41 ∷ 42 ∷ 43 ∷
+          44 ∷ 45 ∷ 46 ∷ 47 ∷ 48 ∷ 7 ∷ 8 ∷ 9 ∷ 10 ∷ 49 ∷ 50 ∷ 51 ∷ 0 ∷ 2 ∷ []) $ at-store same k v isk (ws .1 .1 .1 .0) la e₂))))))))
 
       at-in : length ys ≡ 63 → Sq W (‵ (froom (N′.mir) l₀ 0) ∷ ‵ (fat fullShare (refTy) l₁ 0 (vptr b₁ o₁)) ∷ ‵ (fat fullShare (slice) l₂ 0 sv) ∷ ‵ (fat fullShare (Ak′.mir) l₃ 0 av) ∷ ‵ (fat
-          fullShare (areaTy) l₄ 0 sa) ∷ ‵ (froom (arr) l₅ 0) ∷ ‵ (froom (K′.mir) l₆ 0) ∷ ‵ (froom (arr) l₇ 0) ∷ ‵ (fat fullShare (word) l₈ 0 (vint w64 (length ys))) ∷ ‵ (fat fullShare (tyBool) l₉
-          0 (vbool (not (eqb (length ys) 63)))) ∷ ‵ (froom (word) l₁₀ 0) ∷ ‵ (fat fullShare (shrTy) l₁₁ 0 (vptr b o)) ∷ ‵ (fat fullShare (sliceTy shrTy) l₁₂ 0 sv) ∷ ‵ (froom (Hd′.mir) l₁₃ 0) ∷ ‵
-          (froom (mut8) l₁₄ 0) ∷ ‵ (froom (sliceTy mut8) l₁₅ 0) ∷ ‵ (froom (tyUnit) l₁₆ 0) ∷ ‵ (froom (mutTy) l₁₇ 0) ∷ ‵ (froom (sliceTy mutTy) l₁₈ 0) ∷ ‵ (fdies (N′.mir) l₀) ∷ ‵ (fdies (refTy)
-          l₁) ∷ ‵ (fdies (slice) l₂) ∷ ‵ (fdies (Ak′.mir) l₃) ∷ ‵ (fdies (areaTy) l₄) ∷ ‵ (fdies (arr) l₅) ∷ ‵ (fdies (K′.mir) l₆) ∷ ‵ (fdies (arr) l₇) ∷ ‵ (fdies (word) l₈) ∷ ‵ (fdies (tyBool)
-          l₉) ∷ ‵ (fdies (word) l₁₀) ∷ ‵ (fdies (shrTy) l₁₁) ∷ ‵ (fdies (sliceTy shrTy) l₁₂) ∷ ‵ (fdies (Hd′.mir) l₁₃) ∷ ‵ (fdies (mut8) l₁₄) ∷ ‵ (fdies (sliceTy mut8) l₁₅) ∷ ‵ (fdies (tyUnit)
-          l₁₆) ∷ ‵ (fdies (mutTy) l₁₇) ∷ ‵ (fdies (sliceTy mutTy) l₁₈) ∷ ‵ (fobs γ₁ (headT .coded .code h)) ∷ ‵ (fbor κ₁ (BodyAt (inMem headT) b₁ o₁ γ₁)) ∷ ‵ (flft κ₁ q₁) ∷ ‵ (fobs γ (codedHoleys
-          rowT .code (heres rowT ys))) ∷ ‵ (fbor κ₂ (HeldS rowT (length ys) b o γ)) ∷ ‵ (flft κ₂ q₂) ∷ ‵ (fobs γ₃ (codedHoleys u8 .code (heres u8 ar))) ∷ ‵ (fbor κ₃ (HeldS u8 (length ar) b₃ o₃
-          γ₃)) ∷ ‵ (flft κ₃ q₃) ∷ [])
+          fullShare (areaTy) l₄ 0 sa) ∷ ‵ (froom (arr) l₅ 0) ∷ ‵ (froom (K′.mir) l₆ 0) ∷ ‵ (froom (arr) l₇ 0) ∷ ‵ (fat fullShare (word) l₈ 0 (vint w64 (length ys))) ∷ ‵ (fat fullShare (tyBool)
+          l₉ 0 (vbool (not (eqb (length ys) 63)))) ∷ ‵ (froom (word) l₁₀ 0) ∷ ‵ (fat fullShare (shrTy) l₁₁ 0 (vptr b o)) ∷ ‵ (fat fullShare (sliceTy shrTy) l₁₂ 0 sv) ∷ ‵ (froom (Hd′.mir) l₁₃ 0)
+          ∷ ‵ (froom (mut8) l₁₄ 0) ∷ ‵ (froom (sliceTy mut8) l₁₅ 0) ∷ ‵ (froom (tyUnit) l₁₆ 0) ∷ ‵ (froom (mutTy) l₁₇ 0) ∷ ‵ (froom (sliceTy mutTy) l₁₈ 0) ∷ ‵ (fdies (N′.mir) l₀) ∷ ‵ (fdies
+          (refTy) l₁) ∷ ‵ (fdies (slice) l₂) ∷ ‵ (fdies (Ak′.mir) l₃) ∷ ‵ (fdies (areaTy) l₄) ∷ ‵ (fdies (arr) l₅) ∷ ‵ (fdies (K′.mir) l₆) ∷ ‵ (fdies (arr) l₇) ∷ ‵ (fdies (word) l₈) ∷ ‵ (fdies
+          (tyBool) l₉) ∷ ‵ (fdies (word) l₁₀) ∷ ‵ (fdies (shrTy) l₁₁) ∷ ‵ (fdies (sliceTy shrTy) l₁₂) ∷ ‵ (fdies (Hd′.mir) l₁₃) ∷ ‵ (fdies (mut8) l₁₄) ∷ ‵ (fdies (sliceTy mut8) l₁₅) ∷ ‵ (fdies
+          (tyUnit) l₁₆) ∷ ‵ (fdies (mutTy) l₁₇) ∷ ‵ (fdies (sliceTy mutTy) l₁₈) ∷ ‵ (fobs γ₁ (headT .coded .code h)) ∷ ‵ (fbor κ₁ (BodyAt (inMem headT) b₁ o₁ γ₁)) ∷ ‵ (flft κ₁ q₁) ∷ ‵ (fobs γ
+          (codedHoleys rowT .code (heres rowT ys))) ∷ ‵ (fbor κ₂ (HeldS rowT (length ys) b o γ)) ∷ ‵ (flft κ₂ q₂) ∷ ‵ (fobs γ₃ (codedHoleys u8 .code (heres u8 ar))) ∷ ‵ (fbor κ₃ (HeldS u8
+          (length ar) b₃ o₃ γ₃)) ∷ ‵ (flft κ₃ q₃) ∷ [])
           (runs C Λ En (t-6 callee size) (atRet En Post))
       at-in same =
           move ! (41 ∷ 42 ∷ 43 ∷ []) $ opens-slice ! tt rowT ys b o $ lft-new ! tt (λ α.
@@ -400,28 +410,28 @@ module _ (rule : Lent → Asked → Outcome) (size : ℕ) (small : T (ltb size (
           rewrite ! 0 (λ (zs : List Row). ‵ (Array rowT 63 .own zs (v ∷ []))) e₁ refl $ peeks ! (Array rowT 63) (Is (Array rowT 63)) (shows 𝓤 H A (Array rowT 63)) ys (v ∷ []) (λ is₄. drop ! $
           land ! (from ! (stop !)) (init ! 10 refl (rows-typed 𝓤 H A W ys v is₄)) $ rewrite ! 10 (λ (us : List Val). ‵ (fat fullShare arr l₅ 0 (only us))) (arr-tells 63 ys (v ∷ []) is₄) refl $
           split ! $ lft-end ! tt $ move ! (0 ∷ 2 ∷ []) $ lent-back ! tt $ fsplit ! $ drop ! $ move ! (0 ∷ 2 ∷ 3 ∷ 4 ∷ []) $ closes-slice ! tt rowT ys ys refl b o $
-          keep ! (4 ∷ 5 ∷ 6 ∷ 7 ∷ 8 ∷ 9 ∷ 10 ∷ 11 ∷ 12 ∷ 13 ∷ 14 ∷ 15 ∷ 16 ∷ 17 ∷ 18 ∷ 19 ∷ 20 ∷ 21 ∷ 22 ∷ 23 ∷ 24 ∷ 25 ∷ 26 ∷ 27 ∷ 28 ∷ 29 ∷ 30 ∷ 31 ∷ 32 ∷ 33 ∷ 34 ∷ 35 ∷ 36 ∷ 37 ∷ 38 ∷ 39 ∷ 40 ∷
-          41 ∷ 42 ∷ 43 ∷ 44 ∷ 0 ∷ 1 ∷ 2 ∷ 45 ∷ 46 ∷ 47 ∷ []) $ at-kept same (subst (Is (Array rowT 63) ys) (arr-tells 63 ys (v ∷ []) is₄) is₄)))))))
+          keep ! (4 ∷ 5 ∷ 6 ∷ 7 ∷ 8 ∷ 9 ∷ 10 ∷ 11 ∷ 12 ∷ 13 ∷ 14 ∷ 15 ∷ 16 ∷ 17 ∷ 18 ∷ 19 ∷ 20 ∷ 21 ∷ 22 ∷ 23 ∷ 24 ∷ 25 ∷ 26 ∷ 27 ∷ 28 ∷ 29 ∷ 30 ∷ 31 ∷ 32 ∷ 33 ∷ 34 ∷ 35 ∷ 36 ∷ 37 ∷ 38 ∷ 39 ∷ 40
+          ∷ 41 ∷ 42 ∷ 43 ∷ 44 ∷ 0 ∷ 1 ∷ 2 ∷ 45 ∷ 46 ∷ 47 ∷ []) $ at-kept same (subst (Is (Array rowT 63) ys) (arr-tells 63 ys (v ∷ []) is₄) is₄)))))))
 
-      at-branch : Sq W (‵ (froom (N′.mir) l₀ 0) ∷ ‵ (fat fullShare (refTy) l₁ 0 (vptr b₁ o₁)) ∷ ‵ (fat fullShare (slice) l₂ 0 sv) ∷ ‵ (fat fullShare (Ak′.mir) l₃ 0 av) ∷ ‵ (fat fullShare (areaTy)
-          l₄ 0 sa) ∷ ‵ (froom (arr) l₅ 0) ∷ ‵ (froom (K′.mir) l₆ 0) ∷ ‵ (froom (arr) l₇ 0) ∷ ‵ (fat fullShare (word) l₈ 0 (vint w64 (length ys))) ∷ ‵ (fat fullShare (tyBool) l₉ 0 (vbool (not (eqb
-          (length ys) 63)))) ∷ ‵ (froom (word) l₁₀ 0) ∷ ‵ (froom (shrTy) l₁₁ 0) ∷ ‵ (froom (sliceTy shrTy) l₁₂ 0) ∷ ‵ (froom (Hd′.mir) l₁₃ 0) ∷ ‵ (froom (mut8) l₁₄ 0) ∷ ‵ (froom (sliceTy mut8) l₁₅
-          0) ∷ ‵ (froom (tyUnit) l₁₆ 0) ∷ ‵ (froom (mutTy) l₁₇ 0) ∷ ‵ (froom (sliceTy mutTy) l₁₈ 0) ∷ ‵ (fdies (N′.mir) l₀) ∷ ‵ (fdies (refTy) l₁) ∷ ‵ (fdies (slice) l₂) ∷ ‵ (fdies (Ak′.mir) l₃) ∷
-          ‵ (fdies (areaTy) l₄) ∷ ‵ (fdies (arr) l₅) ∷ ‵ (fdies (K′.mir) l₆) ∷ ‵ (fdies (arr) l₇) ∷ ‵ (fdies (word) l₈) ∷ ‵ (fdies (tyBool) l₉) ∷ ‵ (fdies (word) l₁₀) ∷ ‵ (fdies (shrTy) l₁₁) ∷ ‵
-          (fdies (sliceTy shrTy) l₁₂) ∷ ‵ (fdies (Hd′.mir) l₁₃) ∷ ‵ (fdies (mut8) l₁₄) ∷ ‵ (fdies (sliceTy mut8) l₁₅) ∷ ‵ (fdies (tyUnit) l₁₆) ∷ ‵ (fdies (mutTy) l₁₇) ∷ ‵ (fdies (sliceTy mutTy)
-          l₁₈) ∷ ‵ (fobs γ₁ (headT .coded .code h)) ∷ ‵ (fbor κ₁ (BodyAt (inMem headT) b₁ o₁ γ₁)) ∷ ‵ (flft κ₁ q₁) ∷ ‵ (fobs γ (codedHoleys rowT .code (heres rowT ys))) ∷ ‵ (fbor κ₂ (HeldS rowT
-          (length ys) b o γ)) ∷ ‵ (flft κ₂ q₂) ∷ ‵ (fobs γ₃ (codedHoleys u8 .code (heres u8 ar))) ∷ ‵ (fbor κ₃ (HeldS u8 (length ar) b₃ o₃ γ₃)) ∷ ‵ (flft κ₃ q₃) ∷ [])
+      at-branch : Sq W (‵ (froom (N′.mir) l₀ 0) ∷ ‵ (fat fullShare (refTy) l₁ 0 (vptr b₁ o₁)) ∷ ‵ (fat fullShare (slice) l₂ 0 sv) ∷ ‵ (fat fullShare (Ak′.mir) l₃ 0 av) ∷ ‵ (fat fullShare
+          (areaTy) l₄ 0 sa) ∷ ‵ (froom (arr) l₅ 0) ∷ ‵ (froom (K′.mir) l₆ 0) ∷ ‵ (froom (arr) l₇ 0) ∷ ‵ (fat fullShare (word) l₈ 0 (vint w64 (length ys))) ∷ ‵ (fat fullShare (tyBool) l₉ 0 (vbool
+          (not (eqb (length ys) 63)))) ∷ ‵ (froom (word) l₁₀ 0) ∷ ‵ (froom (shrTy) l₁₁ 0) ∷ ‵ (froom (sliceTy shrTy) l₁₂ 0) ∷ ‵ (froom (Hd′.mir) l₁₃ 0) ∷ ‵ (froom (mut8) l₁₄ 0) ∷ ‵ (froom
+          (sliceTy mut8) l₁₅ 0) ∷ ‵ (froom (tyUnit) l₁₆ 0) ∷ ‵ (froom (mutTy) l₁₇ 0) ∷ ‵ (froom (sliceTy mutTy) l₁₈ 0) ∷ ‵ (fdies (N′.mir) l₀) ∷ ‵ (fdies (refTy) l₁) ∷ ‵ (fdies (slice) l₂) ∷ ‵
+          (fdies (Ak′.mir) l₃) ∷ ‵ (fdies (areaTy) l₄) ∷ ‵ (fdies (arr) l₅) ∷ ‵ (fdies (K′.mir) l₆) ∷ ‵ (fdies (arr) l₇) ∷ ‵ (fdies (word) l₈) ∷ ‵ (fdies (tyBool) l₉) ∷ ‵ (fdies (word) l₁₀) ∷ ‵
+          (fdies (shrTy) l₁₁) ∷ ‵ (fdies (sliceTy shrTy) l₁₂) ∷ ‵ (fdies (Hd′.mir) l₁₃) ∷ ‵ (fdies (mut8) l₁₄) ∷ ‵ (fdies (sliceTy mut8) l₁₅) ∷ ‵ (fdies (tyUnit) l₁₆) ∷ ‵ (fdies (mutTy) l₁₇) ∷ ‵
+          (fdies (sliceTy mutTy) l₁₈) ∷ ‵ (fobs γ₁ (headT .coded .code h)) ∷ ‵ (fbor κ₁ (BodyAt (inMem headT) b₁ o₁ γ₁)) ∷ ‵ (flft κ₁ q₁) ∷ ‵ (fobs γ (codedHoleys rowT .code (heres rowT ys))) ∷
+          ‵ (fbor κ₂ (HeldS rowT (length ys) b o γ)) ∷ ‵ (flft κ₂ q₂) ∷ ‵ (fobs γ₃ (codedHoleys u8 .code (heres u8 ar))) ∷ ‵ (fbor κ₃ (HeldS u8 (length ar) b₃ o₃ γ₃)) ∷ ‵ (flft κ₃ q₃) ∷ [])
           (runs C Λ En (t-3 callee size) (atRet En Post))
       at-branch =
           first ! $ branches ! (load ! (from ! (stop !)) (look ! 9 refl))
           (λ neq. move ! (41 ∷ 42 ∷ 43 ∷ []) $ opens-slice ! tt rowT ys b o $ use1 W (given (AllTyped ys) (‵ (row rowT fullShare ys b o))) (rows-known 𝓤 H A W ys b o) $ learn ! (λ ts.
-          closes-slice ! tt rowT ys ys refl b o $ keep ! (3 ∷ 4 ∷ 5 ∷ 6 ∷ 7 ∷ 8 ∷ 9 ∷ 10 ∷ 11 ∷ 12 ∷ 13 ∷ 14 ∷ 15 ∷ 16 ∷ 17 ∷ 18 ∷ 19 ∷ 20 ∷ 21 ∷ 22 ∷ 23 ∷ 24 ∷ 25 ∷ 26 ∷ 27 ∷ 28 ∷ 29 ∷ 30 ∷ 31 ∷
-          32 ∷ 33 ∷ 34 ∷ 35 ∷ 36 ∷ 37 ∷ 38 ∷ 39 ∷ 40 ∷ 41 ∷ 42 ∷ 43 ∷ 0 ∷ 1 ∷ 2 ∷ 44 ∷ 45 ∷ 46 ∷ []) $
+          closes-slice ! tt rowT ys ys refl b o $ keep ! (3 ∷ 4 ∷ 5 ∷ 6 ∷ 7 ∷ 8 ∷ 9 ∷ 10 ∷ 11 ∷ 12 ∷ 13 ∷ 14 ∷ 15 ∷ 16 ∷ 17 ∷ 18 ∷ 19 ∷ 20 ∷ 21 ∷ 22 ∷ 23 ∷ 24 ∷ 25 ∷ 26 ∷ 27 ∷ 28 ∷ 29 ∷ 30 ∷ 31
+          ∷ 32 ∷ 33 ∷ 34 ∷ 35 ∷ 36 ∷ 37 ∷ 38 ∷ 39 ∷ 40 ∷ 41 ∷ 42 ∷ 43 ∷ 0 ∷ 1 ∷ 2 ∷ 44 ∷ 45 ∷ 46 ∷ []) $
           assigns ! (of-opd ! (load ! (from ! (fld ! refl (stop !))) (look-in ! 4 (sub ! 1 refl (whole !))))) (from ! (stop !)) (init ! 10 refl (tt, record { fits = ga .0 })) $
           use0 W (raw (Other 𝓤 H A mem run .pre to-other)) goes-other $
           calls-at ! fm (Other 𝓤 H A mem run) known-other to-other (and-then ! (load ! (from ! (stop !)) (look ! 11 refl)) (and-then ! (lit ! small) (no-more !))) (λ v.
-          use1 W (later (some (λ (r : Answer). (‵ ftrue ⊛ ‵ (N.the-row .own r (v ∷ []))) ⊛ raw (ensured 𝓤 H A others.ended (others.clauses 𝓤 H A mem run) tt (length ar, (size, tt)) tt r)))) (id⊢ 𝓤
-          _) $ await ! tt $ pick ! (λ r.
+          use1 W (later (some (λ (r : Answer). (‵ ftrue ⊛ ‵ (N.the-row .own r (v ∷ []))) ⊛ raw (ensured 𝓤 H A others.ended (others.clauses 𝓤 H A mem run) tt (length ar, (size, tt)) tt r)))) (id⊢
+          𝓤 _) $ await ! tt $ pick ! (λ r.
           split ! $ move ! (1 ∷ []) $ use1 W (raw (fact 𝓤 (r ≡ other-answer (length ar) size))) (other-of r) $ heard ! (r ≡ other-answer (length ar) size) (λ e₁. split ! $ move ! (1 ∷ []) $
           peeks ! N.the-row (Is N.the-row) (shows 𝓤 H A N.the-row) r (v ∷ []) (λ isr. drop ! $
           land ! (from ! (stop !)) (init ! 1 refl (LL.lawful N.the-type N′.the-laws 𝓤 H A W .typed r (v ∷ []) isr .0)) $
@@ -435,23 +445,24 @@ module _ (rule : Lent → Asked → Outcome) (size : ℕ) (small : T (ltb size (
           use1 W (‵ (finally rowT γ ys)) (res-finally 𝓤 H A W (named 1) κ₂ rowT γ ys) $
           move ! (7 ∷ []) $ use1 W (‵ (fres γ₃ (codedHoleys u8 .code (heres u8 ar)))) (W .names .obs-res γ₃ (codedHoleys u8 .code (heres u8 ar))) $
           use1 W (‵ (finally u8 γ₃ ar)) (res-finally 𝓤 H A W (named 2) κ₃ u8 γ₃ ar) $
-          keep ! (5 ∷ 7 ∷ 9 ∷ 3 ∷ 4 ∷ 1 ∷ 0 ∷ []) $ by ! (exits r v h ys ar isr (over-other (λ k. rule k asked) h ys ar r (other (length ys) neq) (refuses h ys asked ar ts (other (length ys) neq)
-          ∙ ap (λ (a : Answer). record { answer = a; left = record { head = h; table = flattened ys; area = ar } }) (sym e₁))) refl refl)))))))
+          keep ! (5 ∷ 7 ∷ 9 ∷ 3 ∷ 4 ∷ 1 ∷ 0 ∷ []) $ by ! (exits r v h ys ar isr (over-other (λ k. rule k asked) h ys ar r (other (length ys) neq) (refuses h ys asked ar ts (other (length ys)
+          neq) ∙ ap (λ (a : Answer). record { answer = a; left = record { head = h; table = flattened ys; area = ar } }) (sym e₁))) refl refl)))))))
           (λ eq. skips ! $ exec ! C Λ En (t-4 callee size) (atRet En Post) $
           assigns ! (addr ! (from ! (fld ! refl (hop ! (look-in ! 2 (sub ! 0 refl (whole !))) (stop !))))) (from ! (stop !)) (init ! 11 refl (tt, tt)) $
-          assigns ! (agg ! (and-then ! (load ! (from ! (stop !)) (look ! 11 refl)) (and-then ! (load ! (from ! (fld ! refl (stop !))) (look-in ! 2 (sub ! 1 refl (whole !)))) (no-more !)))) (from !
-          (stop !)) (init ! 12 refl (tt, (tt, (record { fits = gn .0 }, tt)))) $
-          keep ! (0 ∷ 1 ∷ 2 ∷ 3 ∷ 4 ∷ 5 ∷ 6 ∷ 7 ∷ 8 ∷ 9 ∷ 10 ∷ 11 ∷ 12 ∷ 13 ∷ 14 ∷ 15 ∷ 16 ∷ 17 ∷ 18 ∷ 19 ∷ 20 ∷ 21 ∷ 22 ∷ 23 ∷ 24 ∷ 25 ∷ 26 ∷ 27 ∷ 28 ∷ 29 ∷ 30 ∷ 31 ∷ 32 ∷ 33 ∷ 34 ∷ 35 ∷ 36 ∷ 37
-          ∷ 38 ∷ 39 ∷ 40 ∷ 41 ∷ 42 ∷ 43 ∷ 44 ∷ 45 ∷ 46 ∷ []) $ at-in (is-63 (length ys) eq))
+          assigns ! (agg ! (and-then ! (load ! (from ! (stop !)) (look ! 11 refl)) (and-then ! (load ! (from ! (fld ! refl (stop !))) (look-in ! 2 (sub ! 1 refl (whole !)))) (no-more !)))) (from
+          ! (stop !)) (init ! 12 refl (tt, (tt, (record { fits = gn .0 }, tt)))) $
+          keep ! (0 ∷ 1 ∷ 2 ∷ 3 ∷ 4 ∷ 5 ∷ 6 ∷ 7 ∷ 8 ∷ 9 ∷ 10 ∷ 11 ∷ 12 ∷ 13 ∷ 14 ∷ 15 ∷ 16 ∷ 17 ∷ 18 ∷ 19 ∷ 20 ∷ 21 ∷ 22 ∷ 23 ∷ 24 ∷ 25 ∷ 26 ∷ 27 ∷ 28 ∷ 29 ∷ 30 ∷ 31 ∷ 32 ∷ 33 ∷ 34 ∷ 35 ∷ 36 ∷
+          37 ∷ 38 ∷ 39 ∷ 40 ∷ 41 ∷ 42 ∷ 43 ∷ 44 ∷ 45 ∷ 46 ∷ []) $ at-in (is-63 (length ys) eq))
 
-    module _ (C : Calls 𝓤 H) (Λ : Loops 𝓤 H) (fm : FmC 𝓤 H (W .laws) C) (known-in : Triple 𝓤 (C #rows-in) (In 𝓤 H A mem run)) (known-other : Triple 𝓤 (C #other) (Other 𝓤 H A mem run)) (known-kept
-        : Triple 𝓤 (C callee) (Kp 𝓤 H A rule)) (known-out : Triple 𝓤 (C #rows-out) (Out 𝓤 H A mem run)) where
+    module _ (C : Calls 𝓤 H) (Λ : Loops 𝓤 H) (fm : FmC 𝓤 H (W .laws) C)
+        (known-in : Triple 𝓤 (C #rows-in) (In 𝓤 H A mem run)) (known-other : Triple 𝓤 (C #other) (Other 𝓤 H A mem run))
+        (known-kept : Triple 𝓤 (C callee) (Kp 𝓤 H A rule)) (known-out : Triple 𝓤 (C #rows-out) (Out 𝓤 H A mem run)) where
       walk : ent 𝓤 (onEntry 𝓤 H A thin.signature (κ₁, (κ₂, (κ₃, tt))) (q₁, (q₂, (q₃, tt))) x at) (WpFn 𝓤 H C Λ (thin-fn callee size) (vptr b₁ o₁ ∷ sv ∷ av ∷ sa ∷ []) Post)
       walk =
-          qed W ((‵ (flft κ₁ q₁) ⊛ ‵ (flft κ₂ q₂) ⊛ ‵ (flft κ₃ q₃) ⊛ ‵ ftrue) ∷ ‵ (owns (MutRef (named 0) κ₁ headT ∷ MutSlice (named 1) κ₂ rowT ∷ askT ∷ MutSlice (named 2) κ₃ u8 ∷ []) x at) ∷ [])
-          ∵ enter ! C Λ (thin-fn callee size) (vptr b₁ o₁ ∷ sv ∷ av ∷ sa ∷ []) _ $
-          alloc1 ! (λ l₀. alloc1 ! (λ l₁. alloc1 ! (λ l₂. alloc1 ! (λ l₃. alloc1 ! (λ l₄. alloc1 ! (λ l₅. alloc1 ! (λ l₆. alloc1 ! (λ l₇. alloc1 ! (λ l₈. alloc1 ! (λ l₉. alloc1 ! (λ l₁₀. alloc1 !
-          (λ l₁₁. alloc1 ! (λ l₁₂. alloc1 ! (λ l₁₃. alloc1 ! (λ l₁₄. alloc1 ! (λ l₁₅. alloc1 ! (λ l₁₆. alloc1 ! (λ l₁₇. alloc1 ! (λ l₁₈. alloc0 ! $ params1 ! $
+          qed W ((‵ (flft κ₁ q₁) ⊛ ‵ (flft κ₂ q₂) ⊛ ‵ (flft κ₃ q₃) ⊛ ‵ ftrue) ∷ ‵ (owns (MutRef (named 0) κ₁ headT ∷ MutSlice (named 1) κ₂ rowT ∷ askT ∷ MutSlice (named 2) κ₃ u8 ∷ []) x at) ∷
+          []) ∵ enter ! C Λ (thin-fn callee size) (vptr b₁ o₁ ∷ sv ∷ av ∷ sa ∷ []) _ $
+          alloc1 ! (λ l₀. alloc1 ! (λ l₁. alloc1 ! (λ l₂. alloc1 ! (λ l₃. alloc1 ! (λ l₄. alloc1 ! (λ l₅. alloc1 ! (λ l₆. alloc1 ! (λ l₇. alloc1 ! (λ l₈. alloc1 ! (λ l₉. alloc1 ! (λ l₁₀. alloc1
+          ! (λ l₁₁. alloc1 ! (λ l₁₂. alloc1 ! (λ l₁₃. alloc1 ! (λ l₁₄. alloc1 ! (λ l₁₅. alloc1 ! (λ l₁₆. alloc1 ! (λ l₁₇. alloc1 ! (λ l₁₈. alloc0 ! $ params1 ! $
           pass1 ! (init ! 34 refl (tt, tt)) $ pass1 ! (init ! 32 refl (tt, (tt, (record { fits = gn .0 }, tt)))) $ pass1 ! (init ! 30 refl asked-typed) $
           pass1 ! (init ! 28 refl (tt, (tt, (record { fits = ga .0 }, tt)))) $ pass0 ! $
           assigns ! (of-opd ! (load ! (from ! (fld ! refl (stop !))) (look-in ! 32 (sub ! 1 refl (whole !))))) (from ! (stop !)) (init ! 20 refl (tt, record { fits = gn .0 })) $
@@ -459,12 +470,13 @@ module _ (rule : Lent → Asked → Outcome) (size : ℕ) (small : T (ltb size (
           move ! (39 ∷ []) $ fsplit ! $ fsplit3 ! $ drop ! $ move ! (2 ∷ []) $ fsplit ! $ fsplit ! $ move ! (1 ∷ []) $ fsplit ! $
           move ! (3 ∷ []) $ fsplit ! $ move ! (1 ∷ []) $ fsplit ! $ fsplit ! $ move ! (1 ∷ []) $ fsplit ! $
           move ! (48 ∷ []) $ split ! $ move ! (1 ∷ []) $ split ! $ move ! (1 ∷ []) $ split ! $
-          keep ! (50 ∷ 48 ∷ 46 ∷ 44 ∷ 42 ∷ 40 ∷ 38 ∷ 36 ∷ 34 ∷ 32 ∷ 30 ∷ 28 ∷ 26 ∷ 24 ∷ 22 ∷ 20 ∷ 18 ∷ 16 ∷ 14 ∷ 51 ∷ 49 ∷ 47 ∷ 45 ∷ 43 ∷ 41 ∷ 39 ∷ 37 ∷ 35 ∷ 33 ∷ 31 ∷ 29 ∷ 27 ∷ 25 ∷ 23 ∷ 21 ∷ 19
-          ∷ 17 ∷ 15 ∷ 12 ∷ 13 ∷ 3 ∷ 9 ∷ 10 ∷ 2 ∷ 4 ∷ 5 ∷ 0 ∷ []) $
+          keep ! (50 ∷ 48 ∷ 46 ∷ 44 ∷ 42 ∷ 40 ∷ 38 ∷ 36 ∷ 34 ∷ 32 ∷ 30 ∷ 28 ∷ 26 ∷ 24 ∷ 22 ∷ 20 ∷ 18 ∷ 16 ∷ 14 ∷ 51 ∷ 49 ∷ 47 ∷ 45 ∷ 43 ∷ 41 ∷ 39 ∷ 37 ∷ 35 ∷ 33 ∷ 31 ∷ 29 ∷ 27 ∷ 25 ∷ 23 ∷ 21 ∷
+          19 ∷ 17 ∷ 15 ∷ 12 ∷ 13 ∷ 3 ∷ 9 ∷ 10 ∷ 2 ∷ 4 ∷ 5 ∷ 0 ∷ []) $
           at-branch C Λ fm known-in known-other known-kept known-out l₀ l₁ l₂ l₃ l₄ l₅ l₆ l₇ l₈ l₉ l₁₀ l₁₁ l₁₂ l₁₃ l₁₄ l₁₅ l₁₆ l₁₇ l₁₈)))))))))))))))))))
 
   module _ {M : Type 1} (𝓤 : URA M) (H : Heap 𝓤) (A : Atoms 𝓤) (W : Given 𝓤 H A) (mem : Memory → SProp 𝓤) (run : Routine → Fun 𝓤) where
-    thin-walks : (C : Calls 𝓤 H) (Λ : Loops 𝓤 H) (fm : FmC 𝓤 H (W .laws) C) (known-in : Triple 𝓤 (C #rows-in) (In 𝓤 H A mem run)) (known-other : Triple 𝓤 (C #other) (Other 𝓤 H A mem run))
+    thin-walks : (C : Calls 𝓤 H) (Λ : Loops 𝓤 H) (fm : FmC 𝓤 H (W .laws) C)
+        (known-in : Triple 𝓤 (C #rows-in) (In 𝓤 H A mem run)) (known-other : Triple 𝓤 (C #other) (Other 𝓤 H A mem run))
         (known-kept : Triple 𝓤 (C callee) (Kp 𝓤 H A rule)) (known-out : Triple 𝓤 (C #rows-out) (Out 𝓤 H A mem run))
         → Walks 𝓤 H A thin.ended stayed (WpFn 𝓤 H C Λ (thin-fn callee size)) (thin-clauses 𝓤 rule)
     thin-walks C Λ fm known-in known-other known-kept known-out = walked 𝓤 H A thin.ended stayed (thin-clauses 𝓤 rule) (WpFn 𝓤 H C Λ (thin-fn callee size)) (λ κs. (
@@ -492,8 +504,8 @@ module _ (rule : Lent → Asked → Outcome) (size : ℕ) (small : T (ltb size (
             (
               goes-dropped 𝓤 H A W 3 (plain (λ _. askT)) is-kept (λ κs x f. refl),
               (
-                goes-gave-slice 𝓤 H
-                    A W 3 2 tt (plain (λ _. u8)),
+                goes-gave-slice 𝓤
+                    H A W 3 2 tt (plain (λ _. u8)),
                 tt,
               ),
             ),
