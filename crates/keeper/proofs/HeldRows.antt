@@ -1,21 +1,31 @@
 -- Laws of what a call leaves with the table as rows. Assumes nothing.
-use mathlib.Core.Path.{_≡_, ap, _∙_}
-use mathlib.Core.List.{List}
-use Prim.Native.Nat.{ℕ, _*_}
+use mathlib.Core.Path.{_≡_, refl, ap, _∙_}
+use mathlib.Core.Bool.{Bool, true, false, cond, _&&_}
+use mathlib.Core.List.{List, _∷_, _++_}
+use Prim.Native.Nat.{ℕ, _+_, _*_}
 use native.Mathlib.Omega.{arith}
 use borrow.Author.Tests.{eq-eqb, ne-eqb}
 use lib.ListN.{length}
-use Rattle.refusals.specs.{record-not-sound}
-use Rattle.refusals.specs.Order.{first}
+use lib.Dec.{eqb, leb, ltb}
+use Rattle.refusals.specs.{area-too-short, record-not-sound, not-active}
+use Rattle.refusals.specs.Order.{Test, _⇒_, first}
 use Rattle.rows.specs.Sizes.{most-rows, row-bytes, table-bytes}
+use Rattle.rows.specs.Table.{rows-fit}
+use Rattle.statement.specs.Kinds.{receipt-size, reading-size}
 use Rattle.rules.specs.declared.Head.{Head}
+use Rattle.rules.specs.declared.Answer.{Answer}
 use Rattle.rules.specs.declared.Told.{Told}
-use Rattle.rules.specs.Outcomes.{Lent, Outcome, outcome, refusing, refused, unless}
+use Rattle.rules.specs.Record.{blank, active, finalised, sound}
+use Rattle.rules.specs.Outcomes.{Lent, Outcome, outcome, refusing, refused, unless, lending, readiness}
+use Rattle.rules.specs.New.{new-refusal, making}
+use Rattle.rules.specs.Append.{append-refusal, appending}
+use Rattle.rules.specs.Read.{reading, appending-and-reading}
 use Rattle.rules.specs.Wake.{waking}
 use Rattle.keeper.specs.declared.Row.{Row}
 use Rattle.keeper.specs.declared.Kept.{Kept}
+use Rattle.keeper.specs.declared.Asked.{Asked}
 use Rattle.keeper.specs.Flat.{flattened, rows-of}
-use Rattle.keeper.specs.Held.{Held, as-rows, over-rows}
+use Rattle.keeper.specs.Held.{Held, as-rows, over-rows, other-answer}
 use Rattle.keeper.proofs.RowTrips.{AllTyped, flattened-length}
 
 -- what is kept of a call on flat bytes
@@ -27,24 +37,75 @@ held-as-rows k t table area o p e =
     ap (λ (l : Kept). record { answer = l .answer; head = l .head; rows = l .rows; area = area }) p ∙ ap as-rows e
 
 module _ (rule : Lent → Outcome) (head : Head) (rows : List Row) (area : List ℕ) where
+  abbrev lent : Lent
+  lent = record { head = head; table = flattened rows; area = area }
+
   -- a table of 63 rows
-  pub over-63 : length rows ≡ most-rows → as-rows (rule (record { head = head; table = flattened rows; area = area })) ≡ over-rows rule head rows area
-  unfolding over-rows
+  pub over-63 : length rows ≡ most-rows → as-rows (rule lent) ≡ over-rows rule head rows area
+  unfolding as-rows over-rows
   over-63 e = rw (eq-eqb (length rows) most-rows e)
 
-  -- another one
-  pub over-other : (length rows ≡ most-rows → ⊥)
-      → _≡_ {A = Held} (record { answer = refusing record-not-sound 0; head = head; rows = rows; area = area }) (over-rows rule head rows area)
+  -- another one, where the rule changes nothing
+  pub over-other : (a : Answer) → (length rows ≡ most-rows → ⊥) → rule lent ≡ record { answer = a; left = lent }
+      → _≡_ {A = Held} (record { answer = a; head = head; rows = rows; area = area }) (over-rows rule head rows area)
   unfolding over-rows
-  over-other n = rw (ne-eqb (length rows) most-rows n)
+  over-other a n e = rw (ne-eqb (length rows) most-rows n, e)
 
--- what the rule of Wake says of the bytes of a table of another length: so `over-rows` says there what the rule says
+other-table : (rows : List Row) → AllTyped rows → (length rows ≡ most-rows → ⊥) → length (flattened rows) ≡ table-bytes → ⊥
+other-table rows ts n e =
+    let l : length (flattened rows) ≡ row-bytes * length rows = flattened-length ts in
+    n (omega arith)
+
+-- the rule of Wake on a table of another length
 pub waking-other :
     (head : Head) (rows : List Row) (key area : List ℕ) → AllTyped rows → (length rows ≡ most-rows → ⊥)
     → waking (record { head = head; table = flattened rows; area = area }) key
     ≡ record { answer = refusing record-not-sound 0; left = record { head = head; table = flattened rows; area = area } }
 unfolding first refused unless waking
-waking-other head rows key area ts n =
-    let l : length (flattened rows) ≡ row-bytes * length rows = flattened-length ts in
-    let m : length (flattened rows) ≡ table-bytes → ⊥ = λ e. n (omega arith) in
-    rw (ne-eqb (length (flattened rows)) table-bytes m)
+waking-other head rows key area ts n = rw (ne-eqb (length (flattened rows)) table-bytes (other-table rows ts n))
+
+last-false : (a b c : Bool) → c ≡ false → (a && b && c) ≡ false
+last-false true true c e = e
+last-false true false c e = refl
+last-false false b c e = refl
+
+-- a table of another length is not sound
+unsound : (head : Head) (rows : List Row) → AllTyped rows → (length rows ≡ most-rows → ⊥) → sound head (flattened rows) ≡ false
+unfolding sound rows-fit
+unsound head rows ts n =
+    last-false (leb (head .status) finalised) (cond (eqb (head .status) blank) (eqb (head .count) 0) true) _ (rw (ne-eqb (length (flattened rows)) table-bytes (other-table rows ts n)))
+
+one-or-two : (b : Bool) (t : Test) (rest : List Test) (height : ℕ) (k : Lent) (effect : Outcome)
+    → unless (first ((b ⇒ area-too-short) ∷ (true ⇒ record-not-sound) ∷ t ∷ rest)) height k effect ≡ record { answer = refusing (cond b area-too-short record-not-sound) 0; left = k }
+unfolding first refused unless
+one-or-two true t rest height k effect = refl
+one-or-two false t rest height k effect = refl
+
+-- "1, 2" where the record is not sound
+refuses : (size : ℕ) (k : Lent) (rest : List Test) (height : ℕ) (effect : Outcome) → sound (k .head) (k .table) ≡ false
+    → unless (first (readiness size active not-active k ++ rest)) height k effect ≡ record { answer = other-answer (length (k .area)) size; left = k }
+unfolding lending readiness
+refuses size k rest height effect e = rw e (one-or-two (ltb (length (k .area)) size) _ rest height k effect)
+
+-- a rule that refuses a table of another length with 1 or 2
+abbrev pub RefusesOther : (Lent → Asked → Outcome) → ℕ → Type 0
+RefusesOther rule size = (head : Head) (rows : List Row) (asked : Asked) (area : List ℕ) → AllTyped rows → (length rows ≡ most-rows → ⊥)
+    → rule (record { head = head; table = flattened rows; area = area }) asked
+    ≡ record { answer = other-answer (length area) size; left = record { head = head; table = flattened rows; area = area } }
+
+-- so do the rules of the calls on ledgers
+pub making-other : RefusesOther (λ k a. making k (a .label)) receipt-size
+unfolding making new-refusal
+making-other head rows asked area ts n = refuses receipt-size _ _ _ _ (unsound head rows ts n)
+
+pub appending-other : RefusesOther (λ k a. appending k (a .label) (a .entry) (a .expected)) receipt-size
+unfolding appending append-refusal
+appending-other head rows asked area ts n = refuses receipt-size _ _ _ _ (unsound head rows ts n)
+
+pub reading-other : RefusesOther (λ k a. reading k (a .label) (a .nonce)) reading-size
+unfolding reading
+reading-other head rows asked area ts n = refuses reading-size _ _ _ _ (unsound head rows ts n)
+
+pub both-other : RefusesOther (λ k a. appending-and-reading k (a .label) (a .entry) (a .expected) (a .nonce)) (receipt-size + reading-size)
+unfolding appending-and-reading append-refusal
+both-other head rows asked area ts n = refuses (receipt-size + reading-size) _ _ _ _ (unsound head rows ts n)

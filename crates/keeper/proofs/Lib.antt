@@ -6,3 +6,5 @@ pub mod RowsHeld
 pub mod Turns
 pub mod HeldRows
 pub mod KeptHeld
+pub mod RowsLent
+pub mod ThinCalls

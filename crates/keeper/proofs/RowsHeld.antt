@@ -12,7 +12,7 @@ use base.Logic.{ent, guard}
 use base.Fml.{fsep, fat}
 use prog.Wp.{Heap}
 use ghost.Atoms.{Atoms, sem}
-use types.Kit.{Given, ‵, _$_, _∵_, !, qed, move, drop, use1, rewrite, fsplit, fjoin, fpick, fpack, feqI, check, done}
+use types.Kit.{Given, given, learn, ‵, _$_, _∵_, !, qed, move, drop, use1, rewrite, fsplit, fjoin, fpick, fpack, feqI, check, done}
 use types.Share.{arr-parts}
 use denote.RattleType.{RattleType}
 use denote.Shadow.{shadow}
@@ -24,6 +24,8 @@ use denote.Index.{row}
 use denote.Steps.{owned, peeks}
 use denote.Struct.Laws as LL
 use Rattle.keeper.specs.declared.Row.{Row}
+use Rattle.keeper.proofs.RowTrips.{AllTyped}
+use Rattle.keeper.proofs.RowTypes.{all-typed}
 use Rattle.keeper.proofs.Row as R
 use Rattle.keeper.proofs.Row.Laws as R′
 
@@ -104,3 +106,10 @@ module _ {M : Type 1} (𝓤 : URA M) (H : Heap 𝓤) (A : Atoms 𝓤) (W : Given
         rewrite ! 0 (λ (us : List Val). ‵ (cellAt fullShare (arrTy n ∷ []) us b o)) (arr-tells n xs vs p) refl $
         use1 W (‵ (fat fullShare (arrTy n) b o (arr-val xs))) (W .laws .raw-at fullShare (arrTy n) b o (arr-val xs)) $
         check ! (subst (Is (Array rowT n) xs) (arr-tells n xs vs p) p) $ done !))
+
+  -- rows that stand side by side are as their type has them
+  pub rows-known : (xs : List Row) (b o : ℕ) → ent 𝓤 (sem 𝓤 H A (row rowT fullShare xs b o)) (guard 𝓤 (AllTyped xs) (sem 𝓤 H A (row rowT fullShare xs b o)))
+  rows-known xs b o =
+      qed W (‵ (row rowT fullShare xs b o) ∷ []) ∵
+      use1 W (given (Is (Array rowT (length xs)) xs (arr-val xs ∷ [])) (‵ (fat fullShare (arrTy (length xs)) b o (arr-val xs)))) (gathers (length xs) xs b o refl) $ learn ! (λ p.
+      use1 W (‵ (row rowT fullShare xs b o)) (lays (length xs) xs b o p) $ check ! (all-typed xs (p .0) (p .1 .1)) $ done !)

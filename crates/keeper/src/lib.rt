@@ -2,6 +2,8 @@
 mod flattening;
 mod ledger;
 mod lent;
+mod other;
+mod thin;
 mod values;
 mod waking;
 
@@ -12,6 +14,10 @@ use rows::MOST;
 use rows::TAIL;
 use rules::Answer;
 use rules::Head;
+pub use thin::append;
+pub use thin::append_and_read;
+pub use thin::new;
+pub use thin::read;
 pub use waking::wake;
 
 // A ledger's row.

@@ -1,0 +1,82 @@
+// The calls on ledgers, on a head and a table that the caller lends. All have one shape and one body.
+use crate::Asked;
+use crate::Row;
+use crate::ledger::append_and_read_kept;
+use crate::ledger::append_kept;
+use crate::ledger::new_kept;
+use crate::ledger::read_kept;
+use crate::lent::rows_in;
+use crate::lent::rows_out;
+use crate::other::other_length;
+use rows::MOST;
+use rules::Answer;
+use rules::Head;
+use statement::READING_SIZE;
+use statement::RECEIPT_SIZE;
+ghost use mathlib.Core.Path.{_≡_};
+ghost use Rattle.rules.specs.New.{making};
+ghost use Rattle.rules.specs.Append.{appending};
+ghost use Rattle.rules.specs.Read.{reading, appending-and-reading};
+ghost use Rattle.keeper.specs.Held.{Held, over-rows};
+
+const BOTH: usize = RECEIPT_SIZE + READING_SIZE;
+
+// New.
+pub fn new(h: &mut Head, rows: &mut [Row], asked: Asked, area: &mut [u8]) -> Answer
+    ensures { λ r. ⌜ record { answer = r; head = now (h .exit); rows = now (rows .exit); area = now (area .exit) } ≡ over-rows (λ k. making k (asked .label)) (now (h .entry)) (now (rows .entry)) (now (area .entry)) ⌝ }
+{
+    if rows.len() != MOST {
+        return other_length(area.len(), RECEIPT_SIZE);
+    }
+    let table = rows_in(rows);
+    let kept = new_kept(*h, table, asked, area);
+    *h = kept.head;
+    let left = kept.rows;
+    rows_out(rows, left);
+    kept.answer
+}
+
+// Append.
+pub fn append(h: &mut Head, rows: &mut [Row], asked: Asked, area: &mut [u8]) -> Answer
+    ensures { λ r. ⌜ record { answer = r; head = now (h .exit); rows = now (rows .exit); area = now (area .exit) } ≡ over-rows (λ k. appending k (asked .label) (asked .entry) (asked .expected)) (now (h .entry)) (now (rows .entry)) (now (area .entry)) ⌝ }
+{
+    if rows.len() != MOST {
+        return other_length(area.len(), RECEIPT_SIZE);
+    }
+    let table = rows_in(rows);
+    let kept = append_kept(*h, table, asked, area);
+    *h = kept.head;
+    let left = kept.rows;
+    rows_out(rows, left);
+    kept.answer
+}
+
+// Read.
+pub fn read(h: &mut Head, rows: &mut [Row], asked: Asked, area: &mut [u8]) -> Answer
+    ensures { λ r. ⌜ record { answer = r; head = now (h .exit); rows = now (rows .exit); area = now (area .exit) } ≡ over-rows (λ k. reading k (asked .label) (asked .nonce)) (now (h .entry)) (now (rows .entry)) (now (area .entry)) ⌝ }
+{
+    if rows.len() != MOST {
+        return other_length(area.len(), READING_SIZE);
+    }
+    let table = rows_in(rows);
+    let kept = read_kept(*h, table, asked, area);
+    *h = kept.head;
+    let left = kept.rows;
+    rows_out(rows, left);
+    kept.answer
+}
+
+// Append and read.
+pub fn append_and_read(h: &mut Head, rows: &mut [Row], asked: Asked, area: &mut [u8]) -> Answer
+    ensures { λ r. ⌜ record { answer = r; head = now (h .exit); rows = now (rows .exit); area = now (area .exit) } ≡ over-rows (λ k. appending-and-reading k (asked .label) (asked .entry) (asked .expected) (asked .nonce)) (now (h .entry)) (now (rows .entry)) (now (area .entry)) ⌝ }
+{
+    if rows.len() != MOST {
+        return other_length(area.len(), BOTH);
+    }
+    let table = rows_in(rows);
+    let kept = append_and_read_kept(*h, table, asked, area);
+    *h = kept.head;
+    let left = kept.rows;
+    rows_out(rows, left);
+    kept.answer
+}
