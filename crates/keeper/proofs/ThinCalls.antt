@@ -18,9 +18,11 @@ use prog.Routine.{Routine}
 use prog.Wp.{Heap, Calls, Loops, Env, WpFn, Tables}
 use ghost.Atoms.{Atoms, sem}
 use contract.Monad.{Fun, fact}
-use types.Kit.{Given, given, learn, Sq, runs, ‵, raw, _⊛_, some, later, ⋆, atRet, _$_, _∵_, !, qed, by, move, keep, drop, use0, use1, use2, split, join, pick, rewrite, fsplit, fsplit3, fjoin, fjoin3, feqL, feqI, suffices, frame, await, done}
+use types.Kit.{Given, given, learn, Sq, runs, ‵, raw, _⊛_, some, later, ⋆, atRet, _$_, _∵_, !, qed, by, move}
+use types.Kit.{keep, drop, use0, use1, use2, split, join, pick, rewrite, fsplit, fsplit3, fjoin, fjoin3, feqL, feqI, suffices, frame, await, done}
 use types.Part.{whole, sub, look-in, agg}
-use types.Run.{look, look-raw, store-raw, init, forget, stop, hop, fld, from, load, lit, and-then, no-more, of-opd, bin, addr, assigns, land, first, skips, branches, returns-within, returns, enter, alloc1, alloc0, params1, pass1, pass0, free1, free0, exec}
+use types.Run.{look, look-raw, store-raw, init, forget, stop, hop, fld, from, load, lit, and-then, no-more, of-opd, bin, addr}
+use types.Run.{assigns, land, first, skips, branches, returns-within, returns, enter, alloc1, alloc0, params1, pass1, pass0, free1, free0, exec}
 use types.Tokens.{lft-new, lft-end, lent-back}
 use types.SemTy.{Body as BodyAt}
 use types.Share.{arr-parts}

@@ -25,7 +25,8 @@ use contract.Monad.{Fun}
 use contract.Running.{givenOf, tables, tablesOf}
 use types.Kit.{Given, Item, ‵, _⊛_, given, ⋆, Sq, runs, anyQ, atRet, _$_, _∵_, !, qed, by, move, keep, drop, use1, split, join, learn, rewrite, fsplit, fjoin, suffices, frame, done}
 use types.Part.{whole, sub, look-in, rep}
-use types.Run.{look, look-raw, store, store-raw, init, forget, stop, hop, fld, from, load, lit, of-opd, bin, addr, assigns, assigns-last, first, blocks, stays, leaves-loop, returns, enter, alloc1, alloc0, params1, pass1, pass0, free1, free0, exec, Below, again, loops}
+use types.Run.{look, look-raw, store, store-raw, init, forget, stop, hop, fld, from, load, lit, of-opd, bin, addr, assigns, assigns-last}
+use types.Run.{first, blocks, stays, leaves-loop, returns, enter, alloc1, alloc0, params1, pass1, pass0, free1, free0, exec, Below, again, loops}
 use types.Share.{arr-parts}
 use sound.WpLaws.{WpFn-mono}
 use denote.RattleType.{owns}

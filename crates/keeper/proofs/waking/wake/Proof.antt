@@ -19,9 +19,11 @@ use prog.Wp.{Heap, Calls, Loops, Env, WpFn, Tables}
 use ghost.Atoms.{Atoms, sem}
 use contract.Monad.{Fun, fact}
 use contract.Running.{givenOf, tables, tablesOf}
-use types.Kit.{Given, given, learn, Sq, runs, ‵, raw, _⊛_, some, later, ⋆, atRet, _$_, _∵_, !, qed, by, move, keep, drop, use0, use1, use2, split, join, pick, rewrite, fsplit, fsplit3, fjoin, fjoin3, feqL, feqI, suffices, frame, await, done}
+use types.Kit.{Given, given, learn, Sq, runs, ‵, raw, _⊛_, some, later, ⋆, atRet, _$_, _∵_, !, qed, by, move}
+use types.Kit.{keep, drop, use0, use1, use2, split, join, pick, rewrite, fsplit, fsplit3, fjoin, fjoin3, feqL, feqI, suffices, frame, await, done}
 use types.Part.{whole, sub, look-in, agg}
-use types.Run.{look, look-raw, store-raw, init, forget, stop, hop, fld, from, load, lit, false-lit, and-then, no-more, of-opd, bin, addr, assigns, land, first, skips, branches, returns-within, returns, enter, alloc1, alloc0, params1, pass1, pass0, free1, free0, exec}
+use types.Run.{look, look-raw, store-raw, init, forget, stop, hop, fld, from, load, lit, false-lit, and-then, no-more, of-opd, bin}
+use types.Run.{addr, assigns, land, first, skips, branches, returns-within, returns, enter, alloc1, alloc0, params1, pass1, pass0, free1, free0, exec}
 use types.Tokens.{lft-new, lft-end, lent-back}
 use types.SemTy.{Body}
 use types.Share.{arr-parts}
