@@ -1,10 +1,3 @@
--- Laws of the ledger table as rows.
-pub mod RowTrips
-pub mod RowTypes
-pub mod Filled
-pub mod RowsHeld
-pub mod Turns
-pub mod HeldRows
-pub mod KeptHeld
-pub mod RowsLent
+-- Laws of the calls on a record that the caller lends.
+pub mod OtherTables
 pub mod ThinCalls

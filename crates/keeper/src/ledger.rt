@@ -1,18 +1,18 @@
-// The calls on ledgers, on rows by value. All have one shape.
-use crate::Asked;
-use crate::Kept;
-use crate::Row;
-use crate::flattening::flat;
-use crate::values::keep;
+// The calls on ledgers, on a head and rows by value. All have one shape.
 use rows::MOST;
 use rules::Head;
+use table::Asked;
+use table::Kept;
+use table::Row;
+use table::flat;
+use table::keep;
 ghost use mathlib.Core.Path.{_≡_};
 ghost use Rattle.rules.specs.Outcomes.{Lent};
 ghost use Rattle.rules.specs.New.{making};
 ghost use Rattle.rules.specs.Append.{appending};
 ghost use Rattle.rules.specs.Read.{reading, appending-and-reading};
-ghost use Rattle.keeper.specs.Flat.{flattened};
-ghost use Rattle.keeper.specs.Held.{Held, as-rows};
+ghost use Rattle.table.specs.Flat.{flattened};
+ghost use Rattle.table.specs.Held.{Held, as-rows};
 
 // New.
 pub fn new_kept(head: Head, rows: [Row; MOST], asked: Asked, area: &mut [u8]) -> Kept

@@ -1,28 +1,34 @@
 // The calls on ledgers, on a head and a table that the caller lends. All have one shape and one body.
-use crate::Asked;
-use crate::Row;
 use crate::ledger::append_and_read_kept;
 use crate::ledger::append_kept;
 use crate::ledger::new_kept;
 use crate::ledger::read_kept;
-use crate::lent::rows_in;
-use crate::lent::rows_out;
-use crate::other::other_length;
 use rows::MOST;
 use rules::Answer;
 use rules::Head;
 use statement::READING_SIZE;
 use statement::RECEIPT_SIZE;
+use table::Asked;
+use table::Row;
+use table::other_length;
+use table::rows_in;
+use table::rows_out;
 ghost use mathlib.Core.Path.{_≡_};
 ghost use Rattle.rules.specs.New.{making};
 ghost use Rattle.rules.specs.Append.{appending};
 ghost use Rattle.rules.specs.Read.{reading, appending-and-reading};
-ghost use Rattle.keeper.specs.Held.{Held, over-rows};
+ghost use Rattle.table.specs.Held.{Held, over-rows};
 
 const BOTH: usize = RECEIPT_SIZE + READING_SIZE;
 
 // New.
-pub fn new(h: &mut Head, rows: &mut [Row], asked: Asked, area: &mut [u8]) -> Answer
+#[no_mangle]
+pub extern "C" fn mahqurith_new(
+    h: &mut Head,
+    rows: &mut [Row],
+    asked: Asked,
+    area: &mut [u8],
+) -> Answer
     ensures { λ r. ⌜ record { answer = r; head = now (h .exit); rows = now (rows .exit); area = now (area .exit) } ≡ over-rows (λ k. making k (asked .label)) (now (h .entry)) (now (rows .entry)) (now (area .entry)) ⌝ }
 {
     if rows.len() != MOST {
@@ -37,7 +43,13 @@ pub fn new(h: &mut Head, rows: &mut [Row], asked: Asked, area: &mut [u8]) -> Ans
 }
 
 // Append.
-pub fn append(h: &mut Head, rows: &mut [Row], asked: Asked, area: &mut [u8]) -> Answer
+#[no_mangle]
+pub extern "C" fn mahqurith_append(
+    h: &mut Head,
+    rows: &mut [Row],
+    asked: Asked,
+    area: &mut [u8],
+) -> Answer
     ensures { λ r. ⌜ record { answer = r; head = now (h .exit); rows = now (rows .exit); area = now (area .exit) } ≡ over-rows (λ k. appending k (asked .label) (asked .entry) (asked .expected)) (now (h .entry)) (now (rows .entry)) (now (area .entry)) ⌝ }
 {
     if rows.len() != MOST {
@@ -52,7 +64,13 @@ pub fn append(h: &mut Head, rows: &mut [Row], asked: Asked, area: &mut [u8]) -> 
 }
 
 // Read.
-pub fn read(h: &mut Head, rows: &mut [Row], asked: Asked, area: &mut [u8]) -> Answer
+#[no_mangle]
+pub extern "C" fn mahqurith_read(
+    h: &mut Head,
+    rows: &mut [Row],
+    asked: Asked,
+    area: &mut [u8],
+) -> Answer
     ensures { λ r. ⌜ record { answer = r; head = now (h .exit); rows = now (rows .exit); area = now (area .exit) } ≡ over-rows (λ k. reading k (asked .label) (asked .nonce)) (now (h .entry)) (now (rows .entry)) (now (area .entry)) ⌝ }
 {
     if rows.len() != MOST {
@@ -67,7 +85,13 @@ pub fn read(h: &mut Head, rows: &mut [Row], asked: Asked, area: &mut [u8]) -> An
 }
 
 // Append and read.
-pub fn append_and_read(h: &mut Head, rows: &mut [Row], asked: Asked, area: &mut [u8]) -> Answer
+#[no_mangle]
+pub extern "C" fn mahqurith_append_and_read(
+    h: &mut Head,
+    rows: &mut [Row],
+    asked: Asked,
+    area: &mut [u8],
+) -> Answer
     ensures { λ r. ⌜ record { answer = r; head = now (h .exit); rows = now (rows .exit); area = now (area .exit) } ≡ over-rows (λ k. appending-and-reading k (asked .label) (asked .entry) (asked .expected) (asked .nonce)) (now (h .entry)) (now (rows .entry)) (now (area .entry)) ⌝ }
 {
     if rows.len() != MOST {

@@ -1,6 +1,7 @@
 // What a keeper keeps and what its calls answer. The rules of the calls are in specs/.
 
 // A keeper's head. Identity and digests are zero until they are set.
+#[repr(C)]
 pub struct Head {
     pub status: u8,
     pub count: u8,
@@ -12,6 +13,7 @@ pub struct Head {
 }
 
 // What a call answers: 0 and the number of bytes written, or a refusal; with 11 the present height; whether a finalise is a repeat.
+#[repr(C)]
 pub struct Answer {
     pub number: u32,
     pub written: usize,

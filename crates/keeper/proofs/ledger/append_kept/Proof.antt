@@ -4,7 +4,7 @@ use mathlib.Core.List.{List}
 use Prim.Native.Nat.{ℕ}
 use denote.Ref.{now}
 use Rattle.rules.specs.Append.{appending}
-use Rattle.keeper.proofs.HeldRows.{held-as-rows}
+use Rattle.table.proofs.HeldRows.{held-as-rows}
 use borrow.Author.Needs.{needs}
 use Rattle.keeper.proofs.ledger.append_kept.Statement.{statement}
 use Rattle.keeper.proofs.ledger.append_kept.Tie as tie

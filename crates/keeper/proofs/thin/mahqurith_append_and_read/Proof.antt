@@ -1,0 +1,38 @@
+-- `keeper::thin::mahqurith_append_and_read` meets its contract, by the law of such calls. Assumes nothing.
+use Prim.Native.Nat.{_+_}
+use Rattle.statement.specs.Kinds.{receipt-size, reading-size}
+use Rattle.rules.specs.Read.{appending-and-reading}
+use contract.Running.{givenOf, tables, tablesOf}
+use denote.Triple.Spec.{tripleOf}
+use denote.Triple.Table.{entered, cited}
+use Rattle.rules.specs.Outcomes.{Lent, Outcome}
+use Rattle.table.specs.declared.Asked.{Asked}
+use Rattle.keeper.proofs.OtherTables.{both-other}
+use Rattle.table.proofs.RowsLent.{In, Out}
+use Rattle.keeper.proofs.ThinCalls.{Other, Kp, thin-meets}
+use Rattle.table.proofs.rows_in.Symbol as rows-in
+use Rattle.table.proofs.rows_in.Met as rows-in-thm
+use Rattle.table.proofs.rows_out.Symbol as rows-out
+use Rattle.table.proofs.rows_out.Met as rows-out-thm
+use Rattle.table.proofs.other_length.Symbol as others
+use Rattle.table.proofs.other_length.Met as others-thm
+use Rattle.keeper.proofs.ledger.append_and_read_kept.Symbol as kept
+use Rattle.keeper.proofs.ledger.append_and_read_kept.Met as kept-thm
+use Rattle.keeper.proofs.thin.mahqurith_append_and_read.Key.{name}
+use Rattle.keeper.proofs.thin.mahqurith_append_and_read as thin
+use Rattle.keeper.proofs.thin.mahqurith_append_and_read.Statement as stated
+use Rattle.keeper.proofs.thin.mahqurith_append_and_read.Code as code
+
+abbrev rule : Lent → Asked → Outcome
+rule = λ k a. appending-and-reading k (a .label) (a .entry) (a .expected) (a .nonce)
+
+pub mahqurith-append-and-read-spec : {M : Type 1} → stated.statement M
+unfolding code.routine tablesOf
+mahqurith-append-and-read-spec 𝓤 H 𝓜 𝓖 𝓡 =
+    entered 𝓤 H (tripleOf 𝓤 H (𝓖 .A) thin.signature (thin.spec 𝓤 H (𝓖 .A) (𝓜 .mem) (𝓡 .run)))
+    (tables 𝓤 H 𝓜 𝓡 code.env .C) (tables 𝓤 H 𝓜 𝓡 code.env .Λ) name code.function (code.unfolded 𝓤 H 𝓜 𝓡)
+    (thin-meets rule (receipt-size + reading-size) tt both-other kept.name 𝓤 H (𝓖 .A) (givenOf 𝓤 H 𝓜 𝓖) (𝓜 .mem) (𝓡 .run) (tablesOf 𝓤 H 𝓜 (tables 𝓤 H 𝓜 𝓡 code.env))
+    (cited 𝓤 H (In 𝓤 H (𝓖 .A) (𝓜 .mem) (𝓡 .run)) 𝓜 𝓡 code.env rows-in.name rows-in.routine code.calls-table·rows-in (rows-in-thm.met 𝓤 H 𝓜 𝓖 𝓡))
+    (cited 𝓤 H (Other 𝓤 H (𝓖 .A) (𝓜 .mem) (𝓡 .run)) 𝓜 𝓡 code.env others.name others.routine code.calls-table·other-length (others-thm.met 𝓤 H 𝓜 𝓖 𝓡))
+    (cited 𝓤 H (Kp 𝓤 H (𝓖 .A) rule) 𝓜 𝓡 code.env kept.name kept.routine code.calls-keeper·ledger·append-and-read-kept (kept-thm.met 𝓤 H 𝓜 𝓖 𝓡))
+    (cited 𝓤 H (Out 𝓤 H (𝓖 .A) (𝓜 .mem) (𝓡 .run)) 𝓜 𝓡 code.env rows-out.name rows-out.routine code.calls-table·rows-out (rows-out-thm.met 𝓤 H 𝓜 𝓖 𝓡)))
