@@ -1,0 +1,282 @@
+/* One call of the library, or the hashing that it cannot do without, at a number of ledgers.
+   calls time CALL LEDGERS prints nanoseconds of the call and of the hashing, the best of many rounds that take turns; calls stack CALL LEDGERS prints the
+   bytes of stack; calls once CALL LEDGERS and calls hash CALL LEDGERS run the one or the other once, inside `measured`, for callgrind. */
+#define _GNU_SOURCE
+#include "scene.h"
+
+#include <pthread.h>
+#include <stdio.h>
+#include <stdlib.h>
+#include <string.h>
+#include <time.h>
+
+enum { ROUNDS = 300, STACK = 1 << 20, PAINT = 0xa5, CHUNK = 508 };
+
+static int ledgers;
+static struct rack first, second;
+static struct box before, box;
+static struct handover handover;
+static uint8_t area[MAHQURITH_FINALISED], message[MAHQURITH_HASH_INPUT], digest[MAHQURITH_DIGEST];
+static mahqurith_question question;
+static uint8_t signers[2 * BOXES];
+static uint32_t number;
+
+static void settle(mahqurith_answer answer) { number = answer.number; }
+
+/* A ledger that is there: the last one, which a search meets last. */
+static mahqurith_asked last(void) { return about(ledgers > 0 ? ledgers - 1 : 0); }
+
+static void wake(void) { settle(mahqurith_wake(&box.head, box.rows, MAHQURITH_ROWS, last())); }
+
+static void found(void)
+{
+    settle(mahqurith_initialise(&box.head, box.rows, MAHQURITH_ROWS, last(), area, 0, area, 0, first.bytes, MAHQURITH_RACK, area,
+                                sizeof area));
+}
+
+static void prepare(void)
+{
+    settle(mahqurith_initialise(&box.head, box.rows, MAHQURITH_ROWS, last(), handover.roll, handover.roll_length,
+                                handover.previous.bytes, MAHQURITH_RACK, handover.own.bytes, MAHQURITH_RACK, area, sizeof area));
+}
+
+static void new_ledger(void) { settle(mahqurith_new(&box.head, box.rows, MAHQURITH_ROWS, about(ledgers), area, sizeof area)); }
+
+static void append(void) { settle(mahqurith_append(&box.head, box.rows, MAHQURITH_ROWS, last(), area, sizeof area)); }
+
+static void read_ledger(void) { settle(mahqurith_read(&box.head, box.rows, MAHQURITH_ROWS, last(), area, sizeof area)); }
+
+static void append_and_read(void)
+{
+    settle(mahqurith_append_and_read(&box.head, box.rows, MAHQURITH_ROWS, last(), area, sizeof area));
+}
+
+static void finalise(void)
+{
+    settle(mahqurith_finalise(&box.head, box.rows, MAHQURITH_ROWS, second.bytes, MAHQURITH_RACK, area, sizeof area));
+}
+
+static void activate(void)
+{
+    settle(mahqurith_activate(&box.head, box.rows, MAHQURITH_ROWS, handover.previous.bytes, MAHQURITH_RACK, handover.own.bytes,
+                              MAHQURITH_RACK, handover.bundle, handover.length));
+}
+
+static void bytes_to_check(void)
+{
+    settle(mahqurith_bytes_to_check(&box.head, box.rows, MAHQURITH_ROWS, last(), handover.previous.bytes, MAHQURITH_RACK,
+                                    handover.own.bytes, MAHQURITH_RACK, handover.bundle, handover.length, area, sizeof area));
+}
+
+static void verdict(void)
+{
+    number = mahqurith_verdict(question, first.bytes, MAHQURITH_RACK, area, MAHQURITH_RECEIPT, signers, sizeof signers).number;
+}
+
+/* The hashing that a call cannot do without. */
+static void hash(size_t length) { mahqurith_sha256(message, length, digest); }
+
+static void hash_nothing(void) {}
+
+static void hash_rack(void) { hash(1 + MAHQURITH_RACK); }
+
+static void hash_roll(void) { hash(2 + 56 * (size_t)ledgers); }
+
+static void hash_blocks(void)
+{
+    for (int i = 0; i < (ledgers > 0 ? (ledgers + 8) / 9 : 1); i++)
+        hash(CHUNK);
+}
+
+static void hash_entry(void) { hash(1 + 2 * MAHQURITH_DIGEST); }
+
+static void hash_founding(void)
+{
+    hash_rack();
+    hash(2);
+}
+
+static void hash_preparing(void)
+{
+    hash_rack();
+    hash_rack();
+    hash_blocks();
+    hash_roll();
+}
+
+static void hash_finalise(void)
+{
+    hash_rack();
+    hash_roll();
+    hash_blocks();
+}
+
+static void hash_old_rolls(void)
+{
+    hash_rack();
+    hash_rack();
+    for (int i = 0; i < BOXES; i++)
+        hash_blocks();
+}
+
+static void hash_activate(void)
+{
+    hash_old_rolls();
+    for (int i = 0; ledgers > 0 && i < (BOXES - 1) * LAGGED; i++)
+        hash_entry();
+}
+
+static void hash_check(void)
+{
+    hash_old_rolls();
+    hash_roll();
+}
+
+enum state { BLANK, ACTIVE, PREPARED };
+
+static const struct trial {
+    const char *name;
+    enum state state;
+    void (*call)(void), (*hashing)(void);
+} trials[] = {
+    {"wake", ACTIVE, wake, hash_nothing},
+    {"initialise-founding", BLANK, found, hash_founding},
+    {"initialise-joining", BLANK, prepare, hash_preparing},
+    {"new", ACTIVE, new_ledger, hash_nothing},
+    {"append", ACTIVE, append, hash_entry},
+    {"read", ACTIVE, read_ledger, hash_nothing},
+    {"append-and-read", ACTIVE, append_and_read, hash_entry},
+    {"finalise", ACTIVE, finalise, hash_finalise},
+    {"activate", PREPARED, activate, hash_activate},
+    {"bytes-to-check", PREPARED, bytes_to_check, hash_check},
+    {"verdict", ACTIVE, verdict, hash_rack},
+};
+
+static void must_know(int known, const char *what)
+{
+    if (known)
+        return;
+    fprintf(stderr, "bench: %s\n", what);
+    exit(1);
+}
+
+static const struct trial *trial_of(const char *name)
+{
+    for (size_t i = 0; i < sizeof trials / sizeof *trials; i++)
+        if (strcmp(trials[i].name, name) == 0)
+            return trials + i;
+    must_know(0, "no such call");
+    return NULL;
+}
+
+/* A receipt of the first ledger, by all boxes of the rack. */
+static void make_question(void)
+{
+    mahqurith_statement statement;
+    memset(&statement, 0, sizeof statement);
+    memset(&question, 0, sizeof question);
+    question.kind = statement.kind = MAHQURITH_NEW;
+    memcpy(question.identity, before.head.identity, MAHQURITH_DIGEST);
+    memcpy(statement.identity, before.head.identity, MAHQURITH_DIGEST);
+    memcpy(statement.own, before.head.own, MAHQURITH_DIGEST);
+    question.label[0] = statement.label[0] = 1;
+    for (int i = 0; i < BOXES; i++) {
+        signers[2 * i] = (uint8_t)i;
+        signers[2 * i + 1] = MAHQURITH_ATTESTED | MAHQURITH_VALID;
+    }
+    must_know(mahqurith_write_statement(statement, area, sizeof area).number == 0, "the receipt was not written");
+}
+
+static void set_scene(const struct trial *trial)
+{
+    first = rack_of(1);
+    second = rack_of(2);
+    make_handover(&handover, ledgers);
+    if (trial->state == PREPARED)
+        before = handover.box;
+    else
+        before = active_box(&first, 0, ledgers);
+    if (trial->state == BLANK) {
+        const struct rack *rack = trial->call == found ? &first : &handover.own;
+        mahqurith_asked asked = about(0);
+        memcpy(asked.key, key_of(rack, 0), MAHQURITH_KEY);
+        mahqurith_wake(&before.head, before.rows, MAHQURITH_ROWS, asked);
+    }
+    make_question();
+    box = before;
+}
+
+__attribute__((noinline)) void measured(void (*what)(void)) { what(); }
+
+static double nanoseconds(void (*what)(void))
+{
+    struct timespec start, end;
+    box = before;
+    clock_gettime(CLOCK_MONOTONIC, &start);
+    measured(what);
+    clock_gettime(CLOCK_MONOTONIC, &end);
+    return (double)(end.tv_sec - start.tv_sec) * 1e9 + (double)(end.tv_nsec - start.tv_nsec);
+}
+
+static void print_time(const struct trial *trial)
+{
+    double call = 1e18, hashing = 1e18;
+    for (int i = 0; i < ROUNDS; i++) {
+        double c = nanoseconds(trial->call), h = nanoseconds(trial->hashing);
+        call = c < call ? c : call;
+        hashing = h < hashing ? h : hashing;
+    }
+    printf("%.0f %.0f\n", call, hashing);
+}
+
+static void *run(void *what)
+{
+    ((const struct trial *)what)->call();
+    return NULL;
+}
+
+static size_t used(const uint8_t *stack)
+{
+    size_t clean = 0;
+    while (clean < STACK && stack[clean] == PAINT)
+        clean++;
+    return STACK - clean;
+}
+
+static void *idle(void *what) { return what; }
+
+/* The deepest byte that a thread changed of its painted stack. */
+static size_t stack_of(void *(*start)(void *), const struct trial *trial)
+{
+    uint8_t *stack = aligned_alloc(4096, STACK);
+    must_know(stack != NULL, "no memory for a stack");
+    memset(stack, PAINT, STACK);
+    pthread_attr_t attributes;
+    pthread_t thread;
+    pthread_attr_init(&attributes);
+    pthread_attr_setstack(&attributes, stack, STACK);
+    must_know(pthread_create(&thread, &attributes, start, (void *)trial) == 0, "no thread");
+    pthread_join(thread, NULL);
+    size_t bytes = used(stack);
+    free(stack);
+    return bytes;
+}
+
+int main(int count, char **words)
+{
+    must_know(count == 4, "calls time|stack|once|hash CALL LEDGERS");
+    const struct trial *trial = trial_of(words[2]);
+    ledgers = atoi(words[3]);
+    set_scene(trial);
+    if (strcmp(words[1], "time") == 0)
+        print_time(trial);
+    else if (strcmp(words[1], "stack") == 0)
+        printf("%zu\n", stack_of(run, trial) - stack_of(idle, trial));
+    else if (strcmp(words[1], "hash") == 0)
+        measured(trial->hashing);
+    else {
+        measured(trial->call);
+        printf("%u\n", (unsigned)number);
+    }
+    return 0;
+}

@@ -1,0 +1,272 @@
+/* The header's structs and sizes against the library: each field that a call reads or writes is met where the header has it, nothing beyond a struct is
+   touched, and each size is the least area that is taken. Compiled as C and as C++. */
+#include "mahqurith.h"
+
+#include <stdio.h>
+#include <stdlib.h>
+#include <string.h>
+
+enum { GUARD = 0xa5, KEY_A = 0x11, KEY_B = 0x22, ONE_RACK = 1 + MAHQURITH_KEY };
+
+/* A record between guards. */
+typedef struct {
+    uint8_t low[64];
+    mahqurith_head head;
+    uint8_t middle[62];
+    mahqurith_row rows[MAHQURITH_ROWS];
+    uint8_t high[64];
+} box;
+
+static uint8_t area[MAHQURITH_FINALISED], message[MAHQURITH_HASH_INPUT + 1];
+static box a, b;
+
+static void expect(bool holds, const char *what)
+{
+    if (holds)
+        return;
+    fprintf(stderr, "header: %s\n", what);
+    exit(1);
+}
+
+static bool all(const void *bytes, size_t length, uint8_t value)
+{
+    for (size_t i = 0; i < length; i++)
+        if (((const uint8_t *)bytes)[i] != value)
+            return false;
+    return true;
+}
+
+static bool same(const void *x, const void *y, size_t length) { return memcmp(x, y, length) == 0; }
+
+static void guarded(const box *x)
+{
+    expect(all(x->low, sizeof x->low, GUARD) && all(x->middle, sizeof x->middle, GUARD) && all(x->high, sizeof x->high, GUARD),
+           "bytes beyond head and rows were touched");
+}
+
+/* Accepted with just so many bytes written; one byte less would have been refused with 1. */
+static void exact(mahqurith_answer shorter, mahqurith_answer full, size_t size, const char *what)
+{
+    expect(shorter.number == MAHQURITH_AREA_TOO_SHORT && shorter.written == 0, what);
+    expect(full.number == MAHQURITH_ACCEPTED && full.written == size && full.height == 0 && !full.repeat, what);
+}
+
+static mahqurith_asked nothing_asked(void)
+{
+    mahqurith_asked asked;
+    memset(&asked, 0, sizeof asked);
+    return asked;
+}
+
+static mahqurith_asked about_ledger(void)
+{
+    mahqurith_asked asked = nothing_asked();
+    memset(asked.label, 7, sizeof asked.label);
+    memset(asked.entry, 8, sizeof asked.entry);
+    memset(asked.nonce, 9, sizeof asked.nonce);
+    asked.expected = 1;
+    return asked;
+}
+
+static void rack_of(uint8_t key, uint8_t rack[ONE_RACK])
+{
+    rack[0] = 1;
+    memset(rack + 1, key, MAHQURITH_KEY);
+}
+
+static void digest_of(uint8_t mark, const uint8_t *bytes, size_t length, uint8_t digest[MAHQURITH_DIGEST])
+{
+    message[0] = mark;
+    memcpy(message + 1, bytes, length);
+    expect(mahqurith_sha256(message, length + 1, digest) == 0, "the hash");
+}
+
+static void test_wake(box *x, uint8_t key)
+{
+    mahqurith_asked asked = nothing_asked();
+    memset(asked.key, key, sizeof asked.key);
+    memset(x, GUARD, sizeof *x);
+    expect(mahqurith_wake(&x->head, x->rows, MAHQURITH_ROWS - 1, asked).number == MAHQURITH_RECORD_NOT_SOUND, "62 rows");
+    expect(all(x, sizeof *x, GUARD), "a refusal changed something");
+    expect(mahqurith_wake(&x->head, x->rows, MAHQURITH_ROWS, asked).number == MAHQURITH_ACCEPTED, "wake");
+    expect(x->head.status == MAHQURITH_BLANK && x->head.count == 0 && all(x->head.key, MAHQURITH_KEY, key), "the head's key");
+    expect(all(x->head.identity, 4 * MAHQURITH_DIGEST, 0) && all(x->rows, sizeof x->rows, 0), "a blank record");
+    guarded(x);
+}
+
+static void test_founding(void)
+{
+    uint8_t rack[ONE_RACK], digest[MAHQURITH_DIGEST];
+    rack_of(KEY_A, rack);
+    digest_of(3, rack, sizeof rack, digest);
+    mahqurith_answer shorter = mahqurith_initialise(&a.head, a.rows, MAHQURITH_ROWS, nothing_asked(), area, 0, area, 0, rack,
+                                                    sizeof rack, area, MAHQURITH_HANDOVER - 1);
+    mahqurith_answer full = mahqurith_initialise(&a.head, a.rows, MAHQURITH_ROWS, nothing_asked(), area, 0, area, 0, rack,
+                                                 sizeof rack, area, MAHQURITH_HANDOVER);
+    exact(shorter, full, MAHQURITH_HANDOVER, "initialise");
+    expect(a.head.status == MAHQURITH_ACTIVE && same(a.head.identity, digest, sizeof digest) && same(a.head.own, digest, sizeof digest),
+           "the founder's head");
+    mahqurith_statement_read read = mahqurith_read_statement(area, MAHQURITH_HANDOVER);
+    expect(read.number == 0 && read.statement.kind == MAHQURITH_INITIALISE && same(read.statement.own, digest, sizeof digest),
+           "the initialise statement");
+}
+
+static void test_ledger(void)
+{
+    mahqurith_asked asked = about_ledger();
+    exact(mahqurith_new(&a.head, a.rows, MAHQURITH_ROWS, asked, area, MAHQURITH_RECEIPT - 1),
+          mahqurith_new(&a.head, a.rows, MAHQURITH_ROWS, asked, area, MAHQURITH_RECEIPT), MAHQURITH_RECEIPT, "new");
+    expect(a.head.count == 1 && all(a.rows[0].label, MAHQURITH_LABEL, 7) && a.rows[0].height == 0, "the new row");
+    exact(mahqurith_append(&a.head, a.rows, MAHQURITH_ROWS, asked, area, MAHQURITH_RECEIPT - 1),
+          mahqurith_append(&a.head, a.rows, MAHQURITH_ROWS, asked, area, MAHQURITH_RECEIPT), MAHQURITH_RECEIPT, "append");
+    uint8_t old_and_entry[2 * MAHQURITH_DIGEST] = {0}, tail[MAHQURITH_DIGEST];
+    memcpy(old_and_entry + MAHQURITH_DIGEST, asked.entry, MAHQURITH_DIGEST);
+    digest_of(1, old_and_entry, sizeof old_and_entry, tail);
+    expect(a.rows[0].height == 1 && same(a.rows[0].tail, tail, sizeof tail), "the row after an append");
+    mahqurith_answer again = mahqurith_append(&a.head, a.rows, MAHQURITH_ROWS, asked, area, sizeof area);
+    expect(again.number == MAHQURITH_OUT_OF_ORDER && again.height == 1 && again.written == 0, "out of order");
+    guarded(&a);
+}
+
+static void test_reading(void)
+{
+    mahqurith_asked asked = about_ledger();
+    exact(mahqurith_read(&a.head, a.rows, MAHQURITH_ROWS, asked, area, MAHQURITH_READING - 1),
+          mahqurith_read(&a.head, a.rows, MAHQURITH_ROWS, asked, area, MAHQURITH_READING), MAHQURITH_READING, "read");
+    mahqurith_statement_read read = mahqurith_read_statement(area, MAHQURITH_READING);
+    const mahqurith_statement *s = &read.statement;
+    expect(read.number == 0 && s->kind == MAHQURITH_READ && s->height == 1 && same(s->identity, a.head.identity, MAHQURITH_DIGEST), "a reading");
+    expect(same(s->own, a.head.own, MAHQURITH_DIGEST) && same(s->label, asked.label, MAHQURITH_LABEL), "its rack and label");
+    expect(same(s->tail, a.rows[0].tail, MAHQURITH_DIGEST) && same(s->nonce, asked.nonce, MAHQURITH_NONCE), "its tail and nonce");
+    expect(all(s->other, MAHQURITH_DIGEST, 0) && all(s->roll, MAHQURITH_DIGEST, 0), "the fields that a reading has not");
+    uint8_t written[MAHQURITH_READING];
+    mahqurith_written back = mahqurith_write_statement(read.statement, written, sizeof written);
+    expect(back.number == 0 && back.written == sizeof written && same(written, area, sizeof written), "the reading written again");
+    expect(mahqurith_write_statement(read.statement, written, sizeof written - 1).number == MAHQURITH_AREA_TOO_SHORT, "a short area");
+}
+
+static void test_verdict(void)
+{
+    uint8_t rack[ONE_RACK], signers[2] = {0, MAHQURITH_ATTESTED | MAHQURITH_VALID};
+    rack_of(KEY_A, rack);
+    mahqurith_asked asked = about_ledger();
+    mahqurith_question question;
+    memset(&question, 0, sizeof question);
+    memcpy(question.identity, a.head.identity, MAHQURITH_DIGEST);
+    memcpy(question.label, asked.label, MAHQURITH_LABEL);
+    memcpy(question.nonce, asked.nonce, MAHQURITH_NONCE);
+    question.kind = MAHQURITH_READ;
+    mahqurith_finding finding = mahqurith_verdict(question, rack, sizeof rack, area, MAHQURITH_READING, signers, sizeof signers);
+    expect(finding.number == 0 && finding.height == 1 && same(finding.tail, a.rows[0].tail, MAHQURITH_DIGEST), "the verdict");
+    question.nonce[15] ^= 1;
+    finding = mahqurith_verdict(question, rack, sizeof rack, area, MAHQURITH_READING, signers, sizeof signers);
+    expect(finding.number == MAHQURITH_NONCE_DIFFERS && finding.height == 0 && all(finding.tail, MAHQURITH_DIGEST, 0), "another nonce");
+}
+
+static void test_both(void)
+{
+    mahqurith_asked asked = about_ledger();
+    asked.expected = 2;
+    exact(mahqurith_append_and_read(&a.head, a.rows, MAHQURITH_ROWS, asked, area, MAHQURITH_BOTH - 1),
+          mahqurith_append_and_read(&a.head, a.rows, MAHQURITH_ROWS, asked, area, MAHQURITH_BOTH), MAHQURITH_BOTH, "append and read");
+    expect(a.rows[0].height == 2, "the row after append and read");
+}
+
+/* Leaves the roll's one block behind the statement in the area. */
+static void test_finalise(void)
+{
+    uint8_t next[ONE_RACK], digest[MAHQURITH_DIGEST];
+    rack_of(KEY_B, next);
+    digest_of(3, next, sizeof next, digest);
+    exact(mahqurith_finalise(&a.head, a.rows, MAHQURITH_ROWS, next, sizeof next, area, MAHQURITH_FINALISED - 1),
+          mahqurith_finalise(&a.head, a.rows, MAHQURITH_ROWS, next, sizeof next, area, MAHQURITH_FINALISED),
+          MAHQURITH_HANDOVER + MAHQURITH_BLOCK, "finalise");
+    expect(a.head.status == MAHQURITH_FINAL && same(a.head.next, digest, sizeof digest), "the head after finalise");
+    mahqurith_answer again = mahqurith_finalise(&a.head, a.rows, MAHQURITH_ROWS, area, 0, area, sizeof area);
+    expect(again.number == 0 && again.repeat && again.written == MAHQURITH_HANDOVER + MAHQURITH_BLOCK, "a repeated finalise");
+    guarded(&a);
+}
+
+static void test_roll(const uint8_t *block)
+{
+    mahqurith_roll_read read = mahqurith_read_roll(block, MAHQURITH_BLOCK);
+    expect(read.number == 0 && read.roll.count == 1 && same(read.roll.rows, a.rows, sizeof a.rows), "the roll");
+    uint8_t written[MAHQURITH_ROLL];
+    expect(mahqurith_write_roll(read.roll, written, MAHQURITH_BLOCK).written == MAHQURITH_BLOCK && same(written, block, MAHQURITH_BLOCK), "the roll written again");
+    for (int i = 0; i < MAHQURITH_ROWS; i++)
+        read.roll.rows[i].label[0] = (uint8_t)(i + 1), read.roll.rows[i].height = 1;
+    read.roll.count = MAHQURITH_ROWS;
+    expect(mahqurith_write_roll(read.roll, written, sizeof written - 1).number == MAHQURITH_AREA_TOO_SHORT, "a full roll in a short area");
+    expect(mahqurith_write_roll(read.roll, written, sizeof written).written == sizeof written, "a full roll");
+}
+
+static void test_rack(void)
+{
+    mahqurith_rack rack;
+    uint8_t written[MAHQURITH_RACK];
+    rack.count = MAHQURITH_KEYS;
+    for (int i = 0; i < MAHQURITH_KEYS; i++)
+        memset(rack.keys[i], i + 1, MAHQURITH_KEY);
+    expect(mahqurith_write_rack(rack, written, sizeof written - 1).number == MAHQURITH_AREA_TOO_SHORT, "a full rack in a short area");
+    expect(mahqurith_write_rack(rack, written, sizeof written).written == sizeof written, "a full rack");
+    mahqurith_rack_read read = mahqurith_read_rack(written, sizeof written);
+    expect(read.number == 0 && read.rack.count == MAHQURITH_KEYS && same(read.rack.keys, rack.keys, sizeof rack.keys), "a rack read back");
+    expect(mahqurith_read_rack(written, sizeof written - 1).number == MAHQURITH_RACK_BROKEN, "a broken rack");
+}
+
+/* One old entry with its block, one new entry, no digests for the one row. */
+static size_t write_bundle(const uint8_t *block, uint8_t *bundle)
+{
+    const uint8_t before[] = {1, 0, MAHQURITH_ATTESTED | MAHQURITH_VALID, 1};
+    const uint8_t after[] = {1, 0, MAHQURITH_ATTESTED | MAHQURITH_VALID, 0, 0};
+    memcpy(bundle, before, sizeof before);
+    memcpy(bundle + sizeof before, block, MAHQURITH_BLOCK);
+    memcpy(bundle + sizeof before + MAHQURITH_BLOCK, after, sizeof after);
+    return sizeof before + MAHQURITH_BLOCK + sizeof after;
+}
+
+static void test_joining(const uint8_t *block)
+{
+    uint8_t previous[ONE_RACK], own[ONE_RACK], bundle[MAHQURITH_BLOCK + 16], given[MAHQURITH_HANDOVER];
+    rack_of(KEY_A, previous);
+    rack_of(KEY_B, own);
+    mahqurith_asked asked = nothing_asked();
+    memcpy(asked.identity, a.head.identity, MAHQURITH_DIGEST);
+    expect(mahqurith_initialise(&b.head, b.rows, MAHQURITH_ROWS, asked, block, MAHQURITH_BLOCK, previous, sizeof previous, own,
+                                sizeof own, given, sizeof given).number == 0, "joining");
+    expect(b.head.status == MAHQURITH_PREPARED && b.head.count == 1 && same(b.head.identity, asked.identity, MAHQURITH_DIGEST)
+               && same(b.head.previous, a.head.own, MAHQURITH_DIGEST) && same(b.rows, a.rows, sizeof a.rows), "the prepared record");
+    size_t length = write_bundle(block, bundle);
+    asked.list = MAHQURITH_OF_NEW;
+    exact(mahqurith_bytes_to_check(&b.head, b.rows, MAHQURITH_ROWS, asked, previous, sizeof previous, own, sizeof own, bundle, length, area, MAHQURITH_HANDOVER - 1),
+          mahqurith_bytes_to_check(&b.head, b.rows, MAHQURITH_ROWS, asked, previous, sizeof previous, own, sizeof own, bundle, length, area, MAHQURITH_HANDOVER),
+          MAHQURITH_HANDOVER, "bytes to check");
+    expect(same(area, given, sizeof given), "the bytes of the new entry");
+    asked.number = 1;
+    expect(mahqurith_bytes_to_check(&b.head, b.rows, MAHQURITH_ROWS, asked, previous, sizeof previous, own, sizeof own, bundle, length, area, sizeof area).number
+               == MAHQURITH_LIST_BROKEN, "an entry that is not there");
+    expect(mahqurith_activate(&b.head, b.rows, MAHQURITH_ROWS, previous, sizeof previous, own, sizeof own, bundle, length).number == 0
+               && b.head.status == MAHQURITH_ACTIVE, "activate");
+    guarded(&b);
+}
+
+int main(void)
+{
+    uint8_t block[MAHQURITH_BLOCK];
+    test_wake(&a, KEY_A);
+    test_wake(&b, KEY_B);
+    test_founding();
+    test_ledger();
+    test_reading();
+    test_verdict();
+    test_both();
+    test_finalise();
+    memcpy(block, area + MAHQURITH_HANDOVER, sizeof block);
+    test_roll(block);
+    test_rack();
+    test_joining(block);
+    expect(mahqurith_sha256(message, MAHQURITH_HASH_INPUT, block) == 0
+               && mahqurith_sha256(message, MAHQURITH_HASH_INPUT + 1, block) == MAHQURITH_INPUT_TOO_LONG, "the hash's longest message");
+    puts("header: structs, sizes and constants are the library's");
+    return 0;
+}
