@@ -1,0 +1,62 @@
+-- Contents as C has them, beside those of the layouts. 01, "Layouts": "A rack is taken apart into up to fifteen keys of 32 bytes."; "A parsed statement is one record whose last part depends on
+-- its kind.": in C the record is flat, and the fields that its kind has not are zero.
+use mathlib.Core.Bool.{cond, _&&_}
+use mathlib.Core.List.{List, _++_, map}
+use Prim.Native.Nat.{ℕ}
+use lib.ListN.{take, drop}
+use lib.Dec.{eqb}
+use Rattle.octets.specs.Numbers.{number-of, bytes-of}
+use Rattle.octets.specs.Strings.{same}
+use Rattle.statement.specs.declared.Kind.{Kind}
+use Rattle.statement.specs.declared.Kind.the-variants.{Blank, New, Append, Read, Finalise, Initialise}
+use Rattle.statement.specs.declared.Statement.{Statement}
+use Rattle.statement.specs.Kinds.{kind-number, number-bytes}
+use Rattle.statement.specs.Cut.{no-label}
+use Rattle.desk.specs.Verdict.{height-in}
+use Rattle.interface.specs.declared.Key.{Key}
+use Rattle.interface.specs.declared.Plain.{Plain}
+
+abbrev pub key-of : List ℕ → Key
+key-of bytes = record { bytes = bytes }
+
+abbrev pub bytes-in : Key → List ℕ
+bytes-in k = k .bytes
+
+unfoldable pub keys-of : List Key → List (List ℕ)
+keys-of places = map bytes-in places
+
+unfoldable pub places-of : List (List ℕ) → List Key
+places-of keys = map key-of keys
+
+-- "3 read: the same and a nonce of 16 bytes"; the other kinds have none
+abbrev pub nonce-in : Kind → List ℕ
+nonce-in Blank = no-label
+nonce-in New = no-label
+nonce-in (Append height) = no-label
+nonce-in (Read height nonce-high nonce-low) = bytes-of number-bytes nonce-high ++ bytes-of number-bytes nonce-low
+nonce-in Finalise = no-label
+nonce-in Initialise = no-label
+
+unfoldable pub plain-of : Statement → Plain
+plain-of v =
+    record { kind = kind-number (v .kind); identity = v .identity; own = v .own; other = v .other; roll = v .roll; label = v .label; tail = v .tail; nonce = nonce-in (v .kind); height = height-in (v .kind) }
+
+-- "1 new, 2 append", "3 read", "4 finalise", "5 initialise"; no other number is a kind's
+unfoldable pub kind-named : ℕ → ℕ → List ℕ → Kind
+kind-named number height nonce =
+    cond (eqb number 1) New
+    (cond (eqb number 2) (Append height)
+    (cond (eqb number 3) (Read height (number-of (take number-bytes nonce)) (number-of (take number-bytes (drop number-bytes nonce))))
+    (cond (eqb number 4) Finalise
+    (cond (eqb number 5) Initialise
+    Blank))))
+
+-- the kind of a number, if it has this height and this nonce: of a kind that has none they are zero
+unfoldable pub kind-of : ℕ → ℕ → List ℕ → Kind
+kind-of number height nonce =
+    let k : Kind = kind-named number height nonce in
+    cond (eqb (height-in k) height && same (nonce-in k) nonce) k Blank
+
+unfoldable pub statement-of : Plain → Statement
+statement-of p =
+    record { kind = kind-of (p .kind) (p .height) (p .nonce); identity = p .identity; own = p .own; label = p .label; tail = p .tail; other = p .other; roll = p .roll }
