@@ -13,14 +13,14 @@ use Rattle.roll.specs.Roll as roll
 use Rattle.roll.specs.Roll.{roll-layout}
 use Rattle.statement.specs.Layout.{statement-layout, reading}
 use Rattle.table.specs.declared.Row.{Row}
-use Rattle.table.specs.Flat.{flattened, rows-of}
+use Rattle.table.specs.Flat.{rows-of}
 use Rattle.interface.specs.declared.Rack.{Rack}
 use Rattle.interface.specs.declared.Roll.{Roll}
 use Rattle.interface.specs.declared.Plain.{Plain}
 use Rattle.interface.specs.declared.RackRead.{RackRead}
 use Rattle.interface.specs.declared.RollRead.{RollRead}
 use Rattle.interface.specs.declared.StatementRead.{StatementRead}
-use Rattle.interface.specs.Contents.{key-of, keys-of, places-of, plain-of, statement-of}
+use Rattle.interface.specs.Contents.{key-of, places-of, rack-of, roll-of, plain-of, statement-of}
 
 -- "Result fields not named for an answer are zero."
 unfoldable pub rack-given : Option rack.Rack → RackRead
@@ -31,7 +31,7 @@ unfoldable pub reading-rack : List ℕ → RackRead
 reading-rack s = rack-given (read rack-layout s)
 
 unfoldable pub writing-rack : Rack → List ℕ → Written
-writing-rack r area = writing rack-layout rack-broken (record { count = r .count; keys = keys-of (r .keys) }) area
+writing-rack r area = writing rack-layout rack-broken (rack-of r) area
 
 abbrev pub no-row : Row
 no-row = record { label = replicate label-bytes 0; tail = replicate tail-bytes 0; height = 0 }
@@ -44,7 +44,7 @@ unfoldable pub reading-roll : List ℕ → RollRead
 reading-roll s = roll-given (read roll-layout s)
 
 unfoldable pub writing-roll : Roll → List ℕ → Written
-writing-roll r area = writing roll-layout roll-broken (record { count = r .count; rows = flattened (r .rows) }) area
+writing-roll r area = writing roll-layout roll-broken (roll-of r) area
 
 -- of no statement every field is zero
 unfoldable pub reading-statement : List ℕ → StatementRead

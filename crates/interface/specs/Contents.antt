@@ -7,13 +7,18 @@ use lib.ListN.{take, drop}
 use lib.Dec.{eqb}
 use Rattle.octets.specs.Numbers.{number-of, bytes-of}
 use Rattle.octets.specs.Strings.{same}
+use Rattle.rack.specs.Racks as rack
+use Rattle.roll.specs.Roll as roll
 use Rattle.statement.specs.declared.Kind.{Kind}
 use Rattle.statement.specs.declared.Kind.the-variants.{Blank, New, Append, Read, Finalise, Initialise}
 use Rattle.statement.specs.declared.Statement.{Statement}
 use Rattle.statement.specs.Kinds.{kind-number, number-bytes}
 use Rattle.statement.specs.Cut.{no-label}
+use Rattle.table.specs.Flat.{flattened}
 use Rattle.desk.specs.Verdict.{height-in}
 use Rattle.interface.specs.declared.Key.{Key}
+use Rattle.interface.specs.declared.Rack.{Rack}
+use Rattle.interface.specs.declared.Roll.{Roll}
 use Rattle.interface.specs.declared.Plain.{Plain}
 
 abbrev pub key-of : List ℕ → Key
@@ -27,6 +32,12 @@ keys-of places = map bytes-in places
 
 unfoldable pub places-of : List (List ℕ) → List Key
 places-of keys = map key-of keys
+
+abbrev pub rack-of : Rack → rack.Rack
+rack-of r = record { count = r .count; keys = keys-of (r .keys) }
+
+abbrev pub roll-of : Roll → roll.Roll
+roll-of r = record { count = r .count; rows = flattened (r .rows) }
 
 -- "3 read: the same and a nonce of 16 bytes"; the other kinds have none
 abbrev pub nonce-in : Kind → List ℕ
