@@ -1,23 +1,23 @@
 -- The round trips of the calls for C: what reading accepts is written again as the same bytes, and what is written reads back. Assumes nothing.
-use mathlib.Core.Path.{_≡_, refl, sym, ap, ap₂, _∙_}
+use mathlib.Core.Path.{_≡_, refl, sym, ap, _∙_}
 use mathlib.Core.Bool.{Bool, true, false, cond}
 use mathlib.Core.List.{List, [], _∷_, _++_, map}
-use mathlib.Core.Option.{Option, none, some}
+use mathlib.Core.Option.{none, some}
 use Prim.Native.Nat.{ℕ, zero, suc, _+_, _-_, _*_, _≤_, _<_}
 use native.Mathlib.Omega.{arith}
 use borrow.Author.Tests.{eqb-true}
 use lib.ListN.{length, take, drop, replicate}
-use lib.Dec.{eqb, lit<}
+use lib.Dec.{lit<}
 use Rattle.refusals.specs.{accepted, rack-broken, roll-broken, statement-not-asked}
 use Rattle.octets.specs.Strings.{put}
-use Rattle.octets.specs.Layouts.{Layout, Written, holds, read, writing}
+use Rattle.octets.specs.Layouts.{Written, holds, read, writing}
 use Rattle.octets.proofs.Exact.{Octets, octets-take, octets-drop}
 use Rattle.octets.proofs.RoundTrips.{holds-fits, and-left}
 use Rattle.rack.specs.Racks as rack
 use Rattle.rack.specs.Racks.{rack-layout}
 use Rattle.rack.proofs.RackTrips.{rack-written-reads}
 use Rattle.rack.proofs.Shapes as rack-shape
-use Rattle.rows.specs.Sizes.{most-rows, row-bytes, table-bytes}
+use Rattle.rows.specs.Sizes.{most-rows, table-bytes}
 use Rattle.rows.specs.Table.{rows-fit}
 use Rattle.roll.specs.Blocks.{places-bytes, head-bytes, block-bytes, blocks, gathered}
 use Rattle.roll.specs.Roll as roll
@@ -28,7 +28,6 @@ use Rattle.statement.specs.Layout.{statement-layout, reading}
 use Rattle.statement.proofs.Records.{fits-kind}
 use Rattle.statement.proofs.Shapes.{cut-shaped}
 use Rattle.statement.proofs.StatementTrips.{reading-holds, reading-cut, written-reading}
-use Rattle.table.specs.declared.Row.{Row}
 use Rattle.table.specs.Flat.{flattened, rows-of}
 use Rattle.table.proofs.RowTrips.{AllTyped, rows-flattened, flattened-rows}
 use Rattle.interface.specs.declared.Key.{Key}
@@ -37,8 +36,7 @@ use Rattle.interface.specs.declared.Roll.{Roll}
 use Rattle.interface.specs.declared.Plain.{Plain}
 use Rattle.interface.specs.declared.RackRead.{RackRead}
 use Rattle.interface.specs.declared.RollRead.{RollRead}
-use Rattle.interface.specs.declared.StatementRead.{StatementRead}
-use Rattle.interface.specs.Contents.{key-of, bytes-in, keys-of, places-of, rack-of, roll-of, plain-of, statement-of}
+use Rattle.interface.specs.Contents.{key-of, bytes-in, keys-of, places-of, rack-of, roll-of, statement-of}
 use Rattle.interface.specs.Calls.{rack-given, reading-rack, writing-rack, roll-given, reading-roll, writing-roll, reading-statement, writing-statement}
 use Rattle.interface.proofs.LayoutTrips.{written-front, written-again}
 use Rattle.interface.proofs.KindTrips.{Typed, statement-again, plain-again, typed-shaped}

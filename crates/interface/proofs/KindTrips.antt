@@ -7,7 +7,7 @@ use native.Mathlib.Omega.{arith}
 use borrow.Author.Tests.{eqb-true, eq-eqb}
 use lib.ListN.{length, take, drop, length-drop}
 use lib.Seq.{take-at, drop-at, take-all, length-take-le}
-use lib.Dec.{eqb, lit<}
+use lib.Dec.{eqb}
 use Rattle.octets.specs.Numbers.{number-of, bytes-of}
 use Rattle.octets.specs.Strings.{same}
 use Rattle.octets.proofs.Numbers.{bytes-length}
@@ -16,16 +16,16 @@ use Rattle.octets.proofs.RoundTrips.{and-left, and-right, same-is, same-refl}
 use Rattle.statement.specs.declared.Kind.{Kind}
 use Rattle.statement.specs.declared.Kind.the-variants.{Blank, New, Append, Read, Finalise, Initialise}
 use Rattle.statement.specs.declared.Statement.{Statement}
-use Rattle.statement.specs.Kinds.{kind-number, digest-bytes, label-bytes}
+use Rattle.statement.specs.Kinds.{kind-number}
 use Rattle.statement.specs.Shape.{Arrays, Numbers, Shaped}
 use Rattle.desk.specs.Verdict.{height-in}
 use Rattle.interface.specs.declared.Plain.{Plain}
-use Rattle.interface.specs.Contents.{nonce-in, plain-of, kind-named, kind-of, statement-of}
+use Rattle.interface.specs.Contents.{nonce-bytes, nonce-in, plain-of, kind-named, kind-of, statement-of}
 
 -- a flat statement as its type has it
 pub record Typed (p : Plain) : Type 0 where
   pub arrays : Arrays (statement-of p)
-  pub nonce : length (p .nonce) ≡ label-bytes
+  pub nonce : length (p .nonce) ≡ nonce-bytes
   pub octets : Octets (p .nonce)
   pub height : p .height < 2 ^ 64
 
@@ -59,53 +59,35 @@ pub statement-again : (v : Statement) → Numbers (v .kind) → statement-of (pl
 unfolding plain-of statement-of
 statement-again v n = rw (kind-again (v .kind) n)
 
--- what holds of each kind that a number may name holds of the one that it names
-module _ (number height : ℕ) (nonce : List ℕ) (P : Kind → Type 0) where
-  high : ℕ
-  high = number-of (take 8 nonce)
-
-  low : ℕ
-  low = number-of (take 8 (drop 8 nonce))
-
-  by-number :
-      (number ≡ 1 → P New) → (number ≡ 2 → P (Append height)) → (number ≡ 3 → P (Read height high low)) → (number ≡ 4 → P Finalise) → (number ≡ 5 → P Initialise) → P Blank
-      → P (kind-named number height nonce)
-  unfolding kind-named high low
-  by-number a b c d e f = go1 (eqb number 1) refl
-    where
-      go5 : (t : Bool) → eqb number 5 ≡ t → P (cond t Initialise Blank)
-      go5 true h = e (eqb-true number 5 h)
-      go5 false h = f
-
-      go4 : (t : Bool) → eqb number 4 ≡ t → P (cond t Finalise (cond (eqb number 5) Initialise Blank))
-      go4 true h = d (eqb-true number 4 h)
-      go4 false h = go5 (eqb number 5) refl
-
-      go3 : (t : Bool) → eqb number 3 ≡ t → P (cond t (Read height high low) (cond (eqb number 4) Finalise (cond (eqb number 5) Initialise Blank)))
-      go3 true h = c (eqb-true number 3 h)
-      go3 false h = go4 (eqb number 4) refl
-
-      go2 : (t : Bool) → eqb number 2 ≡ t → P (cond t (Append height) (cond (eqb number 3) (Read height high low) (cond (eqb number 4) Finalise (cond (eqb number 5) Initialise Blank))))
-      go2 true h = b (eqb-true number 2 h)
-      go2 false h = go3 (eqb number 3) refl
-
-      go1 : (t : Bool) → eqb number 1 ≡ t → P (cond t New (cond (eqb number 2) (Append height) (cond (eqb number 3) (Read height high low) (cond (eqb number 4) Finalise (cond (eqb number 5) Initialise Blank)))))
-      go1 true h = a (eqb-true number 1 h)
-      go1 false h = go2 (eqb number 2) refl
+either : (P : Kind → Type 0) {x y : Kind} (t : Bool) → (t ≡ true → P x) → P y → P (cond t x y)
+either P true f g = f refl
+either P false f g = g
 
 module _ (number height : ℕ) (nonce : List ℕ) where
+  -- what holds of each kind that a number may name holds of the one that it names
+  by-number :
+      (P : Kind → Type 0) → (number ≡ 1 → P New) → (number ≡ 2 → P (Append height))
+      → (number ≡ 3 → P (Read height (number-of (take 8 nonce)) (number-of (take 8 (drop 8 nonce))))) → (number ≡ 4 → P Finalise) → (number ≡ 5 → P Initialise) → P Blank
+      → P (kind-named number height nonce)
+  unfolding kind-named
+  by-number P a b c d e f =
+      either P (eqb number 1) (λ h. a (eqb-true number 1 h))
+      (either P (eqb number 2) (λ h. b (eqb-true number 2 h))
+      (either P (eqb number 3) (λ h. c (eqb-true number 3 h))
+      (either P (eqb number 4) (λ h. d (eqb-true number 4 h))
+      (either P (eqb number 5) (λ h. e (eqb-true number 5 h))
+      f))))
+
   named-number : 0 < kind-number (kind-named number height nonce) → kind-number (kind-named number height nonce) ≡ number
   named-number =
-      by-number number height nonce (λ (k : Kind). 0 < kind-number k → kind-number k ≡ number) (λ e h. sym e) (λ e h. sym e) (λ e h. sym e) (λ e h. sym e) (λ e h. sym e)
-      (λ h. absurd (omega arith))
+      by-number (λ (k : Kind). 0 < kind-number k → kind-number k ≡ number) (λ e h. sym e) (λ e h. sym e) (λ e h. sym e) (λ e h. sym e) (λ e h. sym e) (λ h. absurd (omega arith))
 
   half-fits : (n : ℕ) → length (take 8 (drop n nonce)) ≡ 8 → Octets nonce → number-of (take 8 (drop n nonce)) < 2 ^ 64
   half-fits n l o = subst (λ (m : ℕ). number-of (take 8 (drop n nonce)) < 256 ^ m) l (number-below (take 8 (drop n nonce)) (octets-take 8 (drop n nonce) (octets-drop n nonce o)))
 
-  named-numbers : height < 2 ^ 64 → length nonce ≡ label-bytes → Octets nonce → Numbers (kind-named number height nonce)
-  unfolding high low
+  named-numbers : height < 2 ^ 64 → length nonce ≡ nonce-bytes → Octets nonce → Numbers (kind-named number height nonce)
   named-numbers h l o =
-      by-number number height nonce Numbers (λ e. tt) (λ e. h)
+      by-number Numbers (λ e. tt) (λ e. h)
       (λ e. (h, half-fits 0 (length-take-le 8 nonce (omega arith)) o, half-fits 8 (length-take-le 8 (drop 8 nonce) (omega (arith, length-drop 8 nonce))) o))
       (λ e. tt) (λ e. tt) tt
 
@@ -117,30 +99,19 @@ module _ (number height : ℕ) (nonce : List ℕ) where
 
   pub found : 0 < kind-number (kind-of number height nonce) → Found (kind-of number height nonce)
   unfolding kind-of
-  found = go (eqb (height-in n) height && same (nonce-in n) nonce) refl
-    where
-      n : Kind
-      n = kind-named number height nonce
+  found =
+      let n : Kind = kind-named number height nonce in
+      let p : Bool = eqb (height-in n) height in
+      let q : Bool = same (nonce-in n) nonce in
+      either (λ (k : Kind). 0 < kind-number k → Found k) (p && q)
+      (λ e h. record { its-number = named-number h; its-height = eqb-true (height-in n) height (and-left p q e); its-nonce = same-is (nonce-in n) nonce (and-right p q e) })
+      (λ h. absurd (omega arith))
 
-      go : (t : Bool) → (eqb (height-in n) height && same (nonce-in n) nonce) ≡ t → 0 < kind-number (cond t n Blank) → Found (cond t n Blank)
-      go true e h =
-          record {
-            its-number = named-number h;
-            its-height = eqb-true (height-in n) height (and-left (eqb (height-in n) height) (same (nonce-in n) nonce) e);
-            its-nonce = same-is (nonce-in n) nonce (and-right (eqb (height-in n) height) (same (nonce-in n) nonce) e);
-          }
-      go false e h = absurd (omega arith)
-
-  pub found-numbers : height < 2 ^ 64 → length nonce ≡ label-bytes → Octets nonce → Numbers (kind-of number height nonce)
+  pub found-numbers : height < 2 ^ 64 → length nonce ≡ nonce-bytes → Octets nonce → Numbers (kind-of number height nonce)
   unfolding kind-of
-  found-numbers h l o = go (eqb (height-in n) height && same (nonce-in n) nonce)
-    where
-      n : Kind
-      n = kind-named number height nonce
-
-      go : (t : Bool) → Numbers (cond t n Blank)
-      go true = named-numbers h l o
-      go false = tt
+  found-numbers h l o =
+      let n : Kind = kind-named number height nonce in
+      either Numbers (eqb (height-in n) height && same (nonce-in n) nonce) (λ e. named-numbers h l o) tt
 
 pub plain-again : (p : Plain) → 0 < kind-number (statement-of p .kind) → plain-of (statement-of p) ≡ p
 unfolding plain-of statement-of

@@ -3,7 +3,7 @@
 use mathlib.Core.Bool.{cond, _&&_}
 use mathlib.Core.List.{List, _++_, map}
 use Prim.Native.Nat.{ℕ}
-use lib.ListN.{take, drop}
+use lib.ListN.{take, drop, replicate}
 use lib.Dec.{eqb}
 use Rattle.octets.specs.Numbers.{number-of, bytes-of}
 use Rattle.octets.specs.Strings.{same}
@@ -13,7 +13,6 @@ use Rattle.statement.specs.declared.Kind.{Kind}
 use Rattle.statement.specs.declared.Kind.the-variants.{Blank, New, Append, Read, Finalise, Initialise}
 use Rattle.statement.specs.declared.Statement.{Statement}
 use Rattle.statement.specs.Kinds.{kind-number, number-bytes}
-use Rattle.statement.specs.Cut.{no-label}
 use Rattle.table.specs.Flat.{flattened}
 use Rattle.desk.specs.Verdict.{height-in}
 use Rattle.interface.specs.declared.Key.{Key}
@@ -39,14 +38,21 @@ rack-of r = record { count = r .count; keys = keys-of (r .keys) }
 abbrev pub roll-of : Roll → roll.Roll
 roll-of r = record { count = r .count; rows = flattened (r .rows) }
 
+-- "a nonce of 16 bytes"
+abbrev pub nonce-bytes : ℕ
+nonce-bytes = 16
+
+abbrev pub no-nonce : List ℕ
+no-nonce = replicate nonce-bytes 0
+
 -- "3 read: the same and a nonce of 16 bytes"; the other kinds have none
 abbrev pub nonce-in : Kind → List ℕ
-nonce-in Blank = no-label
-nonce-in New = no-label
-nonce-in (Append height) = no-label
+nonce-in Blank = no-nonce
+nonce-in New = no-nonce
+nonce-in (Append height) = no-nonce
 nonce-in (Read height nonce-high nonce-low) = bytes-of number-bytes nonce-high ++ bytes-of number-bytes nonce-low
-nonce-in Finalise = no-label
-nonce-in Initialise = no-label
+nonce-in Finalise = no-nonce
+nonce-in Initialise = no-nonce
 
 unfoldable pub plain-of : Statement → Plain
 plain-of v =

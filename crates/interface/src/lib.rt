@@ -15,9 +15,13 @@ pub use rolls::mahqurith_read_roll;
 pub use rolls::mahqurith_write_roll;
 use statement::DIGEST;
 use statement::LABEL;
+use statement::NUMBER;
 pub use statements::mahqurith_read_statement;
 pub use statements::mahqurith_write_statement;
 use table::Row;
+
+// The bytes of a nonce: two numbers.
+pub const NONCE: usize = 2 * NUMBER;
 
 #[repr(C)]
 pub struct Key {
@@ -48,7 +52,7 @@ pub struct Plain {
     pub roll: [u8; DIGEST],
     pub label: [u8; LABEL],
     pub tail: [u8; DIGEST],
-    pub nonce: [u8; LABEL],
+    pub nonce: [u8; NONCE],
     pub height: u64,
 }
 
@@ -83,6 +87,6 @@ pub struct Written {
 pub struct Question {
     pub identity: [u8; DIGEST],
     pub label: [u8; LABEL],
-    pub nonce: [u8; LABEL],
+    pub nonce: [u8; NONCE],
     pub kind: u8,
 }
