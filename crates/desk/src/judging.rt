@@ -56,8 +56,8 @@ fn refusal_of_verdict(
     unmarked(signers, refusals::SIGNATURE_NOT_VALID)
 }
 
-// The height that a kind has.
-fn height_in(kind: Kind) -> u64
+// The height that a kind has; 0 where it has none.
+pub fn height_in(kind: Kind) -> u64
     ensures { λ r. ⌜ r ≡ height-in kind ⌝ }
 {
     match kind {

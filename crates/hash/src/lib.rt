@@ -41,11 +41,3 @@ pub fn sha256(message: &[u8], area: &mut [u8; 32]) -> u32
     *area = digest(message);
     refusals::ACCEPTED
 }
-
-// The same call for C: `uint32_t mahqurith_sha256(const uint8_t *message, size_t length, uint8_t area[32])`.
-#[no_mangle]
-pub extern "C" fn mahqurith_sha256(message: &[u8], area: &mut [u8; 32]) -> u32
-    ensures { λ r. ⌜ record { answer = r; area = now (area .exit) } ≡ hashing (now (message .entry)) (now (area .entry)) ⌝ }
-{
-    sha256(message, area)
-}
