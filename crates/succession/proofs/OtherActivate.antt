@@ -7,7 +7,7 @@ use lib.ListN.{length}
 use Rattle.refusals.specs.{record-not-sound}
 use Rattle.rows.specs.Sizes.{most-rows}
 use Rattle.rules.specs.declared.Head.{Head}
-use Rattle.rules.specs.Outcomes.{Lent, refusing, lending, readiness}
+use Rattle.rules.specs.Outcomes.{refusing, lending, readiness}
 use Rattle.rules.specs.Activate.{bundle-tests, activating}
 use Rattle.table.specs.declared.Row.{Row}
 use Rattle.table.specs.Flat.{flattened}

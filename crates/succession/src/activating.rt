@@ -16,13 +16,7 @@ ghost use Rattle.table.specs.Flat.{flattened};
 ghost use Rattle.table.specs.Held.{Held, as-rows, over-rows};
 
 // Activate, on a head and rows by value.
-fn activate_kept(
-    head: Head,
-    rows: [Row; MOST],
-    previous: &[u8],
-    own: &[u8],
-    bundle: &[u8],
-) -> Kept
+fn activate_kept(head: Head, rows: [Row; MOST], previous: &[u8], own: &[u8], bundle: &[u8]) -> Kept
     ensures { λ r. ⌜ record { answer = r .answer; head = r .head; rows = r .rows; area = [] } ≡ as-rows (activating (record { head = head; table = flattened rows; area = [] }) (now (previous .entry)) (now (own .entry)) (now (bundle .entry))) ⌝ }
 {
     let table = flat(rows);
