@@ -1,0 +1,2 @@
+-- Laws of the calls by which one rack follows another.
+pub mod OtherActivate
