@@ -11,7 +11,7 @@ use base.Logic.{via, guardI}
 use base.Fml.{fat, froom, fdies}
 use prog.Wp.{Heap, Env}
 use ghost.Atoms.{Atoms}
-use types.Kit.{Given, Item, Goal, Sq, frees, ‵, _$_, ! }
+use types.Kit.{Given, Item, Goal, Go, Sq, Step, step, frees, ‵, _$_, !}
 use types.Run.{Opd, forget, free1, free0}
 
 -- the locals of E with these values, the further ones empty, before what else there is
@@ -22,11 +22,14 @@ locals 𝓤 H (e ∷ E) (empty ∷ vs) Γ = ‵ (froom (e .0) (e .1) 0) ∷ ‵ 
 locals 𝓤 H (e ∷ E) (holds v ∷ vs) Γ = ‵ (fat fullShare (e .0) (e .1) 0 v) ∷ ‵ (fdies (e .0) (e .1)) ∷ locals 𝓤 H E vs Γ
 
 module _ {M : Type 1} {𝓤 : URA M} {H : Heap 𝓤} {A : Atoms 𝓤} (W : Given 𝓤 H A) {Γ : List (Item 𝓤)} {G : Goal 𝓤 H} where
-  pub frees-all : (E : Env 𝓤 H) (vs : List (Option Val)) → Sq W Γ G → Sq W (locals 𝓤 H E vs Γ) (frees E G)
-  frees-all [] vs s = free0 ! $ s
-  frees-all (e ∷ E) [] s = free1 ! $ frees-all E [] s
-  frees-all (e ∷ E) (empty ∷ vs) s = free1 ! $ frees-all E vs s
-  frees-all (e ∷ E) (holds v ∷ vs) s = forget ! 0 refl $ free1 ! $ frees-all E vs s
+  freed : (E : Env 𝓤 H) (vs : List (Option Val)) → Sq W Γ G → Sq W (locals 𝓤 H E vs Γ) (frees E G)
+  freed [] vs s = free0 ! $ s
+  freed (e ∷ E) [] s = free1 ! $ freed E [] s
+  freed (e ∷ E) (empty ∷ vs) s = free1 ! $ freed E vs s
+  freed (e ∷ E) (holds v ∷ vs) s = forget ! 0 refl $ free1 ! $ freed E vs s
+
+  pub frees-all : (E : Env 𝓤 H) (vs : List (Option Val)) → Step (Go {0}) W Γ G (locals 𝓤 H E vs Γ) (frees E G)
+  frees-all E vs = step (freed E vs)
 
 -- a literal whose bound is proved
 pub big-lit : {M : Type 1} {𝓤 : URA M} {H : Heap 𝓤} {A : Atoms 𝓤} {K : Type 0} {W : Given 𝓤 H A} {Γ : List (Item 𝓤)} {E : Env 𝓤 H} → K → {w : Width} {n : ℕ} → Fits w n → Opd K W Γ E (intBig w n) (vint w n)
