@@ -19,7 +19,7 @@ ghost use Rattle.rules.specs.Outcomes.{outcome};
 ghost use Rattle.rules.specs.Finalise.{handed-over, finalise-refusal, finalising};
 
 // The bytes of a finalise statement and seven blocks.
-const SIZE: usize = 3713;
+pub const FINALISE_SIZE: usize = 3713;
 
 // The first refusal of a keeper that is not finalised yet, or 0.
 fn refusal_of_finalise(head: Head, next: &[u8]) -> u32
@@ -50,7 +50,7 @@ fn leave(head: Head, next: &[u8]) -> Head
 pub fn finalise(head: Head, table: &[u8], next: &[u8], area: &mut [u8]) -> Told
     ensures { λ r. ⌜ outcome r (now (table .entry)) (now (area .exit)) ≡ finalising (record { head = head; table = now (table .entry); area = now (area .entry) }) (now (next .entry)) ⌝ }
 {
-    let n = unlent(head, table, area, SIZE);
+    let n = unlent(head, table, area, FINALISE_SIZE);
     if n != refusals::ACCEPTED {
         return refusal(n, 0, head);
     }

@@ -3,4 +3,5 @@
 mod finalising;
 mod words;
 
+pub use finalising::FINALISE_SIZE;
 pub use finalising::finalise;
