@@ -1,0 +1,3 @@
+// The calls by which one rack follows another, on a head and rows that the caller lends: what a box's firmware links.
+mod messages;
+mod passing;
