@@ -7,3 +7,4 @@ pub mod Turns
 pub mod HeldRows
 pub mod KeptHeld
 pub mod RowsLent
+pub mod OtherLent
