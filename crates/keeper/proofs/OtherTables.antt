@@ -1,28 +1,24 @@
 -- The rules of the keeper's calls on a table of another length than 63: each refuses, and changes nothing. Assumes nothing.
 use mathlib.Core.Path.{_≡_}
-use mathlib.Core.Bool.{false}
-use mathlib.Core.List.{List, _++_}
+use mathlib.Core.List.{List}
 use Prim.Native.Nat.{ℕ, _+_}
 use borrow.Author.Tests.{ne-eqb}
 use lib.ListN.{length}
-use lib.Dec.{ltb}
 use Rattle.refusals.specs.{record-not-sound, not-active}
-use Rattle.refusals.specs.Order.{Test, first}
+use Rattle.refusals.specs.Order.{first}
 use Rattle.rows.specs.Sizes.{most-rows, table-bytes}
 use Rattle.statement.specs.Kinds.{receipt-size, reading-size}
 use Rattle.rules.specs.declared.Head.{Head}
-use Rattle.rules.specs.Record.{active, sound}
-use Rattle.rules.specs.Outcomes.{Lent, Outcome, refusing, refused, unless, lending, readiness}
+use Rattle.rules.specs.Record.{active}
+use Rattle.rules.specs.Outcomes.{refusing, refused, unless}
 use Rattle.rules.specs.New.{new-refusal, making}
 use Rattle.rules.specs.Append.{append-refusal, appending}
 use Rattle.rules.specs.Read.{reading, appending-and-reading}
 use Rattle.rules.specs.Wake.{waking}
 use Rattle.table.specs.declared.Row.{Row}
-use Rattle.table.specs.declared.Asked.{Asked}
 use Rattle.table.specs.Flat.{flattened}
-use Rattle.table.specs.Held.{other-answer}
 use Rattle.table.proofs.RowTrips.{AllTyped}
-use Rattle.table.proofs.HeldRows.{other-table, unsound, one-or-two}
+use Rattle.table.proofs.HeldRows.{other-table, unsound, refuses, RefusesOther}
 
 -- the rule of Wake on a table of another length
 pub waking-other :
@@ -32,31 +28,19 @@ pub waking-other :
 unfolding first refused unless waking
 waking-other head rows key area ts n = rw (ne-eqb (length (flattened rows)) table-bytes (other-table rows ts n))
 
--- "1, 2" where the record is not sound
-refuses : (size : ℕ) (k : Lent) (rest : List Test) (height : ℕ) (effect : Outcome) → sound (k .head) (k .table) ≡ false
-    → unless (first (readiness size active not-active k ++ rest)) height k effect ≡ record { answer = other-answer (length (k .area)) size; left = k }
-unfolding lending readiness
-refuses size k rest height effect e = rw e (one-or-two (ltb (length (k .area)) size) _ rest height k effect)
-
--- a rule that refuses a table of another length with 1 or 2
-abbrev pub RefusesOther : (Lent → Asked → Outcome) → ℕ → Type 0
-RefusesOther rule size = (head : Head) (rows : List Row) (asked : Asked) (area : List ℕ) → AllTyped rows → (length rows ≡ most-rows → ⊥)
-    → rule (record { head = head; table = flattened rows; area = area }) asked
-    ≡ record { answer = other-answer (length area) size; left = record { head = head; table = flattened rows; area = area } }
-
--- so do the rules of the calls on ledgers
+-- the rules of the calls on ledgers
 pub making-other : RefusesOther (λ k a. making k (a .label)) receipt-size
 unfolding making new-refusal
-making-other head rows asked area ts n = refuses receipt-size _ _ _ _ (unsound head rows ts n)
+making-other head rows asked area ts n = refuses receipt-size active not-active _ _ _ _ (unsound head rows ts n)
 
 pub appending-other : RefusesOther (λ k a. appending k (a .label) (a .entry) (a .expected)) receipt-size
 unfolding appending append-refusal
-appending-other head rows asked area ts n = refuses receipt-size _ _ _ _ (unsound head rows ts n)
+appending-other head rows asked area ts n = refuses receipt-size active not-active _ _ _ _ (unsound head rows ts n)
 
 pub reading-other : RefusesOther (λ k a. reading k (a .label) (a .nonce)) reading-size
 unfolding reading
-reading-other head rows asked area ts n = refuses reading-size _ _ _ _ (unsound head rows ts n)
+reading-other head rows asked area ts n = refuses reading-size active not-active _ _ _ _ (unsound head rows ts n)
 
 pub both-other : RefusesOther (λ k a. appending-and-reading k (a .label) (a .entry) (a .expected) (a .nonce)) (receipt-size + reading-size)
 unfolding appending-and-reading append-refusal
-both-other head rows asked area ts n = refuses (receipt-size + reading-size) _ _ _ _ (unsound head rows ts n)
+both-other head rows asked area ts n = refuses (receipt-size + reading-size) active not-active _ _ _ _ (unsound head rows ts n)

@@ -2,3 +2,5 @@
 pub mod FinaliseOther
 pub mod Locals
 pub mod OtherActivate
+pub mod OtherLengths
+pub mod PassedOn

@@ -1,12 +1,12 @@
 -- Laws of what a call leaves with the table as rows. Assumes nothing.
 use mathlib.Core.Path.{_≡_, refl, ap, _∙_}
 use mathlib.Core.Bool.{Bool, true, false, cond, _&&_}
-use mathlib.Core.List.{List, _∷_}
+use mathlib.Core.List.{List, _∷_, _++_}
 use Prim.Native.Nat.{ℕ, _*_}
 use native.Mathlib.Omega.{arith}
 use borrow.Author.Tests.{eq-eqb, ne-eqb}
 use lib.ListN.{length}
-use lib.Dec.{eqb, leb}
+use lib.Dec.{eqb, leb, ltb}
 use Rattle.refusals.specs.{area-too-short, record-not-sound}
 use Rattle.refusals.specs.Order.{Test, _⇒_, first}
 use Rattle.rows.specs.Sizes.{most-rows, row-bytes, table-bytes}
@@ -15,11 +15,12 @@ use Rattle.rules.specs.declared.Head.{Head}
 use Rattle.rules.specs.declared.Answer.{Answer}
 use Rattle.rules.specs.declared.Told.{Told}
 use Rattle.rules.specs.Record.{blank, finalised, sound}
-use Rattle.rules.specs.Outcomes.{Lent, Outcome, outcome, refusing, refused, unless}
+use Rattle.rules.specs.Outcomes.{Lent, Outcome, outcome, refusing, refused, unless, lending, readiness}
 use Rattle.table.specs.declared.Row.{Row}
 use Rattle.table.specs.declared.Kept.{Kept}
+use Rattle.table.specs.declared.Asked.{Asked}
 use Rattle.table.specs.Flat.{flattened, rows-of}
-use Rattle.table.specs.Held.{Held, as-rows, over-rows}
+use Rattle.table.specs.Held.{Held, as-rows, over-rows, other-answer}
 use Rattle.table.proofs.RowTrips.{AllTyped, flattened-length}
 
 -- what is kept of a call on flat bytes
@@ -61,8 +62,20 @@ unfolding sound rows-fit
 unsound head rows ts n =
     last-false (leb (head .status) finalised) (cond (eqb (head .status) blank) (eqb (head .count) 0) true) _ (rw (ne-eqb (length (flattened rows)) table-bytes (other-table rows ts n)))
 
-pub one-or-two : (b : Bool) (t : Test) (rest : List Test) (height : ℕ) (k : Lent) (effect : Outcome)
+one-or-two : (b : Bool) (t : Test) (rest : List Test) (height : ℕ) (k : Lent) (effect : Outcome)
     → unless (first ((b ⇒ area-too-short) ∷ (true ⇒ record-not-sound) ∷ t ∷ rest)) height k effect ≡ record { answer = refusing (cond b area-too-short record-not-sound) 0; left = k }
 unfolding first refused unless
 one-or-two true t rest height k effect = refl
 one-or-two false t rest height k effect = refl
+
+-- "1, 2" where the record is not sound
+pub refuses : (size status number : ℕ) (k : Lent) (rest : List Test) (height : ℕ) (effect : Outcome) → sound (k .head) (k .table) ≡ false
+    → unless (first (readiness size status number k ++ rest)) height k effect ≡ record { answer = other-answer (length (k .area)) size; left = k }
+unfolding lending readiness
+refuses size status number k rest height effect e = rw e (one-or-two (ltb (length (k .area)) size) _ rest height k effect)
+
+-- a rule that refuses a table of another length with 1 or 2
+abbrev pub RefusesOther : (Lent → Asked → Outcome) → ℕ → Type 0
+RefusesOther rule size = (head : Head) (rows : List Row) (asked : Asked) (area : List ℕ) → AllTyped rows → (length rows ≡ most-rows → ⊥)
+    → rule (record { head = head; table = flattened rows; area = area }) asked
+    ≡ record { answer = other-answer (length area) size; left = record { head = head; table = flattened rows; area = area } }

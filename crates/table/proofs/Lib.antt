@@ -7,4 +7,5 @@ pub mod Turns
 pub mod HeldRows
 pub mod KeptHeld
 pub mod RowsLent
+pub mod OtherLent
 pub mod Outcomes

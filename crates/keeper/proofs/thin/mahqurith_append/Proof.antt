@@ -8,7 +8,8 @@ use Rattle.rules.specs.Outcomes.{Lent, Outcome}
 use Rattle.table.specs.declared.Asked.{Asked}
 use Rattle.keeper.proofs.OtherTables.{appending-other}
 use Rattle.table.proofs.RowsLent.{In, Out}
-use Rattle.keeper.proofs.ThinCalls.{Other, Kp, thin-meets}
+use Rattle.table.proofs.OtherLent.{Other}
+use Rattle.keeper.proofs.ThinCalls.{Kp, thin-meets}
 use Rattle.table.proofs.rows_in.Symbol as rows-in
 use Rattle.table.proofs.rows_in.Met as rows-in-thm
 use Rattle.table.proofs.rows_out.Symbol as rows-out

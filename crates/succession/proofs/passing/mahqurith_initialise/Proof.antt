@@ -1,0 +1,36 @@
+-- `succession::passing::mahqurith_initialise` meets its contract, by the law of such calls. Assumes nothing.
+use Rattle.statement.specs.Kinds.{handover-size}
+use Rattle.rules.specs.Initialise.{initialising}
+use contract.Running.{givenOf, tables, tablesOf}
+use denote.Triple.Spec.{tripleOf}
+use denote.Triple.Table.{entered, cited}
+use Rattle.succession.proofs.OtherLengths.{initialising-other}
+use Rattle.table.proofs.RowsLent.{In, Out}
+use Rattle.table.proofs.OtherLent.{Other}
+use Rattle.succession.proofs.PassedOn.{Rule, Kp, passing-meets}
+use Rattle.table.proofs.rows_in.Symbol as rows-in
+use Rattle.table.proofs.rows_in.Met as rows-in-thm
+use Rattle.table.proofs.rows_out.Symbol as rows-out
+use Rattle.table.proofs.rows_out.Met as rows-out-thm
+use Rattle.table.proofs.other_length.Symbol as others
+use Rattle.table.proofs.other_length.Met as others-thm
+use Rattle.succession.proofs.messages.initialise_kept.Symbol as kept
+use Rattle.succession.proofs.messages.initialise_kept.Met as kept-thm
+use Rattle.succession.proofs.passing.mahqurith_initialise.Key.{name}
+use Rattle.succession.proofs.passing.mahqurith_initialise as thin
+use Rattle.succession.proofs.passing.mahqurith_initialise.Statement as stated
+use Rattle.succession.proofs.passing.mahqurith_initialise.Code as code
+
+abbrev rule : Rule
+rule = λ k a roll previous own. initialising k (a .identity) roll previous own
+
+pub mahqurith-initialise-spec : {M : Type 1} → stated.statement M
+unfolding code.routine tablesOf
+mahqurith-initialise-spec 𝓤 H 𝓜 𝓖 𝓡 =
+    entered 𝓤 H (tripleOf 𝓤 H (𝓖 .A) thin.signature (thin.spec 𝓤 H (𝓖 .A) (𝓜 .mem) (𝓡 .run)))
+    (tables 𝓤 H 𝓜 𝓡 code.env .C) (tables 𝓤 H 𝓜 𝓡 code.env .Λ) name code.function (code.unfolded 𝓤 H 𝓜 𝓡)
+    (passing-meets rule handover-size tt initialising-other kept.name 𝓤 H (𝓖 .A) (givenOf 𝓤 H 𝓜 𝓖) (𝓜 .mem) (𝓡 .run) (tablesOf 𝓤 H 𝓜 (tables 𝓤 H 𝓜 𝓡 code.env))
+    (cited 𝓤 H (In 𝓤 H (𝓖 .A) (𝓜 .mem) (𝓡 .run)) 𝓜 𝓡 code.env rows-in.name rows-in.routine code.calls-table·rows-in (rows-in-thm.met 𝓤 H 𝓜 𝓖 𝓡))
+    (cited 𝓤 H (Other 𝓤 H (𝓖 .A) (𝓜 .mem) (𝓡 .run)) 𝓜 𝓡 code.env others.name others.routine code.calls-table·other-length (others-thm.met 𝓤 H 𝓜 𝓖 𝓡))
+    (cited 𝓤 H (Kp 𝓤 H (𝓖 .A) rule) 𝓜 𝓡 code.env kept.name kept.routine code.calls-succession·messages·initialise-kept (kept-thm.met 𝓤 H 𝓜 𝓖 𝓡))
+    (cited 𝓤 H (Out 𝓤 H (𝓖 .A) (𝓜 .mem) (𝓡 .run)) 𝓜 𝓡 code.env rows-out.name rows-out.routine code.calls-table·rows-out (rows-out-thm.met 𝓤 H 𝓜 𝓖 𝓡)))
