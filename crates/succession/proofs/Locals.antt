@@ -11,7 +11,7 @@ use base.Logic.{via, guardI}
 use base.Fml.{fat, froom, fdies}
 use prog.Wp.{Heap, Env}
 use ghost.Atoms.{Atoms}
-use types.Kit.{Given, Item, Goal, Go, Sq, Step, step, frees, ‵, _$_, !}
+use types.Kit.{Given, Item, Goal, Go, Sq, Step, step, frees, ‵, _$_, ! }
 use types.Run.{Opd, forget, free1, free0}
 
 -- the locals of E with these values, the further ones empty, before what else there is
