@@ -17,7 +17,8 @@ ghost use Rattle.table.specs.Held.{Held, as-rows, over-rows};
 
 // Activate, on a head and rows by value.
 fn activate_kept(head: Head, rows: [Row; MOST], previous: &[u8], own: &[u8], bundle: &[u8]) -> Kept
-    ensures { λ r. ⌜ record { answer = r .answer; head = r .head; rows = r .rows; area = [] } ≡ as-rows (activating (record { head = head; table = flattened rows; area = [] }) (now (previous .entry)) (now (own .entry)) (now (bundle .entry))) ⌝ }
+    ensures { λ r. ⌜ record { answer = r .answer; head = r .head; rows = r .rows; area = [] }
+        ≡ as-rows (activating (record { head = head; table = flattened rows; area = [] }) (now (previous .entry)) (now (own .entry)) (now (bundle .entry))) ⌝ }
 {
     let table = flat(rows);
     let told = handover::activate(head, &table, previous, own, bundle);
@@ -33,7 +34,8 @@ pub extern "C" fn mahqurith_activate(
     own: &[u8],
     bundle: &[u8],
 ) -> Answer
-    ensures { λ r. ⌜ record { answer = r; head = now (h .exit); rows = now (rows .exit); area = [] } ≡ over-rows (λ k. activating k (now (previous .entry)) (now (own .entry)) (now (bundle .entry))) (now (h .entry)) (now (rows .entry)) [] ⌝ }
+    ensures { λ r. ⌜ record { answer = r; head = now (h .exit); rows = now (rows .exit); area = [] }
+        ≡ over-rows (λ k. activating k (now (previous .entry)) (now (own .entry)) (now (bundle .entry))) (now (h .entry)) (now (rows .entry)) [] ⌝ }
 {
     if rows.len() != MOST {
         return Answer {
