@@ -43,7 +43,8 @@ pub fn check_kept(
     area: &mut [u8],
 ) -> Kept
     ensures { λ r. ⌜ record { answer = r .answer; head = r .head; rows = r .rows; area = now (area .exit) }
-        ≡ as-rows (checking (record { head = head; table = flattened rows; area = now (area .entry) }) (now (previous .entry)) (now (own .entry)) (now (bundle .entry)) (asked .list) (asked .number)) ⌝ }
+        ≡ as-rows (checking (record { head = head; table = flattened rows; area = now (area .entry) }) (now (previous .entry)) (now (own .entry)) (now (bundle .entry))
+        (asked .list) (asked .number)) ⌝ }
 {
     let table = flat(rows);
     let list = asked.list;

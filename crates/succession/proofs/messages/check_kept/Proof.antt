@@ -29,7 +29,8 @@ returns c =
     let a = c .before .before .before .before .before .before .before .before .before .before .before .before .args in
     held-as-rows (c .keep .result) (c .before .before .before .before .bytes-to-check .result) _ _ _ (c .keep .ensures)
     (c .before .before .before .before .bytes-to-check .ensures
-    ∙ ap (λ (t : List ℕ). checking (record { head = a .head; table = t; area = now (a .area) }) (now (a .previous)) (now (a .own)) (now (a .bundle)) (a .asked .list) (a .asked .number)) (c .before .before .before .before .before .before .before .flat .ensures))
+    ∙ ap (λ (t : List ℕ). checking (record { head = a .head; table = t; area = now (a .area) })
+    (now (a .previous)) (now (a .own)) (now (a .bundle)) (a .asked .list) (a .asked .number)) (c .before .before .before .before .before .before .before .flat .ensures))
 
 pub check-kept-spec : {M : Type 1} → statement M
 check-kept-spec =

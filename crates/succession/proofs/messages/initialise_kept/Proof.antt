@@ -29,7 +29,8 @@ returns c =
     let a = c .before .before .before .before .before .before .before .before .before .before .before .before .before .before .args in
     held-as-rows (c .keep .result) (c .before .before .before .before .before .initialise .result) _ _ _ (c .keep .ensures)
     (c .before .before .before .before .before .initialise .ensures
-    ∙ ap (λ (t : List ℕ). initialising (record { head = a .head; table = t; area = now (a .area) }) (a .asked .identity) (now (a .roll)) (now (a .previous)) (now (a .own))) (c .before .before .before .before .before .before .before .before .before .flat .ensures))
+    ∙ ap (λ (t : List ℕ). initialising (record { head = a .head; table = t; area = now (a .area) })
+    (a .asked .identity) (now (a .roll)) (now (a .previous)) (now (a .own))) (c .before .before .before .before .before .before .before .before .before .flat .ensures))
 
 pub initialise-kept-spec : {M : Type 1} → statement M
 initialise-kept-spec =
