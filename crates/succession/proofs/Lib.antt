@@ -1,6 +1,4 @@
 -- Laws of the calls by which one rack follows another.
-pub mod FinaliseOther
 pub mod Locals
-pub mod OtherActivate
-pub mod OtherLengths
+pub mod OtherTables
 pub mod PassedOn

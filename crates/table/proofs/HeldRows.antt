@@ -62,17 +62,18 @@ unfolding sound rows-fit
 unsound head rows ts n =
     last-false (leb (head .status) finalised) (cond (eqb (head .status) blank) (eqb (head .count) 0) true) _ (rw (ne-eqb (length (flattened rows)) table-bytes (other-table rows ts n)))
 
-one-or-two : (b : Bool) (t : Test) (rest : List Test) (height : ℕ) (k : Lent) (effect : Outcome)
-    → unless (first ((b ⇒ area-too-short) ∷ (true ⇒ record-not-sound) ∷ t ∷ rest)) height k effect ≡ record { answer = refusing (cond b area-too-short record-not-sound) 0; left = k }
+-- "1, 2", whatever is asked after them
+pub one-or-two : (b : Bool) (rest : List Test) (height : ℕ) (k : Lent) (effect : Outcome)
+    → unless (first ((b ⇒ area-too-short) ∷ (true ⇒ record-not-sound) ∷ rest)) height k effect ≡ record { answer = refusing (cond b area-too-short record-not-sound) 0; left = k }
 unfolding first refused unless
-one-or-two true t rest height k effect = refl
-one-or-two false t rest height k effect = refl
+one-or-two true rest height k effect = refl
+one-or-two false rest height k effect = refl
 
 -- "1, 2" where the record is not sound
 pub refuses : (size status number : ℕ) (k : Lent) (rest : List Test) (height : ℕ) (effect : Outcome) → sound (k .head) (k .table) ≡ false
     → unless (first (readiness size status number k ++ rest)) height k effect ≡ record { answer = other-answer (length (k .area)) size; left = k }
 unfolding lending readiness
-refuses size status number k rest height effect e = rw e (one-or-two (ltb (length (k .area)) size) _ rest height k effect)
+refuses size status number k rest height effect e = rw e (one-or-two (ltb (length (k .area)) size) _ height k effect)
 
 -- a rule that refuses a table of another length with 1 or 2
 abbrev pub RefusesOther : (Lent → Asked → Outcome) → ℕ → Type 0

@@ -81,7 +81,7 @@ use Rattle.table.proofs.rows_out as rows-out
 use Rattle.table.proofs.rows_out.Symbol as rows-out-def
 use Rattle.table.proofs.rows_out.Symbol.{name as #rows-out}
 use Rattle.table.proofs.rows_out.Met as rows-out-thm
-use Rattle.succession.proofs.OtherActivate.{activating-other}
+use Rattle.succession.proofs.OtherTables.{activating-other}
 use Rattle.succession.proofs.activating.activate_kept as kept
 use Rattle.succession.proofs.activating.activate_kept.Symbol as kept-def
 use Rattle.succession.proofs.activating.activate_kept.Symbol.{name as #kept}

@@ -83,7 +83,7 @@ use Rattle.table.proofs.other_length as others
 use Rattle.table.proofs.other_length.Symbol as others-def
 use Rattle.table.proofs.other_length.Symbol.{name as #other}
 use Rattle.table.proofs.other_length.Met as others-thm
-use Rattle.succession.proofs.FinaliseOther.{finalising-other}
+use Rattle.succession.proofs.OtherTables.{finalising-other}
 use Rattle.succession.proofs.Locals.{locals, frees-all, span, big-lit}
 use Rattle.succession.proofs.finalising.finalise_kept as kept
 use Rattle.succession.proofs.finalising.finalise_kept.Symbol as kept-def

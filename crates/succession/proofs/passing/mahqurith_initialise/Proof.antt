@@ -4,7 +4,7 @@ use Rattle.rules.specs.Initialise.{initialising}
 use contract.Running.{givenOf, tables, tablesOf}
 use denote.Triple.Spec.{tripleOf}
 use denote.Triple.Table.{entered, cited}
-use Rattle.succession.proofs.OtherLengths.{initialising-other}
+use Rattle.succession.proofs.OtherTables.{initialising-other}
 use Rattle.table.proofs.RowsLent.{In, Out}
 use Rattle.table.proofs.OtherLent.{Other}
 use Rattle.succession.proofs.PassedOn.{Rule, Kp, passing-meets}
