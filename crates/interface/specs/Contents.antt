@@ -56,7 +56,17 @@ nonce-in Initialise = no-nonce
 
 unfoldable pub plain-of : Statement → Plain
 plain-of v =
-    record { kind = kind-number (v .kind); identity = v .identity; own = v .own; other = v .other; roll = v .roll; label = v .label; tail = v .tail; nonce = nonce-in (v .kind); height = height-in (v .kind) }
+    record {
+      kind = kind-number (v .kind);
+      identity = v .identity;
+      own = v .own;
+      other = v .other;
+      roll = v .roll;
+      label = v .label;
+      tail = v .tail;
+      nonce = nonce-in (v .kind);
+      height = height-in (v .kind);
+    }
 
 -- "1 new, 2 append", "3 read", "4 finalise", "5 initialise"; no other number is a kind's
 unfoldable pub kind-named : ℕ → ℕ → List ℕ → Kind
