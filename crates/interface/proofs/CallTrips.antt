@@ -1,16 +1,13 @@
 -- The round trips of the calls for C: what reading accepts is written again as the same bytes, and what is written reads back. Assumes nothing.
 use mathlib.Core.Path.{_≡_, refl, sym, ap, _∙_}
-use mathlib.Core.Bool.{Bool, true, false, cond}
+use mathlib.Core.Bool.{true}
 use mathlib.Core.List.{List, [], _∷_, _++_, map}
-use mathlib.Core.Option.{none, some}
 use Prim.Native.Nat.{ℕ, zero, suc, _+_, _-_, _*_, _≤_, _<_}
-use native.Mathlib.Omega.{arith}
 use borrow.Author.Tests.{eqb-true}
 use lib.ListN.{length, take, drop, replicate}
 use lib.Dec.{lit<}
 use Rattle.refusals.specs.{accepted, rack-broken, roll-broken, statement-not-asked}
-use Rattle.octets.specs.Strings.{put}
-use Rattle.octets.specs.Layouts.{Written, holds, read, writing}
+use Rattle.octets.specs.Layouts.{holds}
 use Rattle.octets.proofs.Exact.{Octets, octets-take, octets-drop}
 use Rattle.octets.proofs.RoundTrips.{holds-fits, and-left}
 use Rattle.rack.specs.Racks as rack
@@ -27,27 +24,17 @@ use Rattle.statement.specs.Cut.{cut-statement}
 use Rattle.statement.specs.Layout.{statement-layout, reading}
 use Rattle.statement.proofs.Records.{fits-kind}
 use Rattle.statement.proofs.Shapes.{cut-shaped}
-use Rattle.statement.proofs.StatementTrips.{reading-holds, reading-cut, written-reading}
+use Rattle.statement.proofs.StatementTrips.{written-read as statement-back}
 use Rattle.table.specs.Flat.{flattened, rows-of}
 use Rattle.table.proofs.RowTrips.{AllTyped, rows-flattened, flattened-rows}
 use Rattle.interface.specs.declared.Key.{Key}
 use Rattle.interface.specs.declared.Rack.{Rack}
 use Rattle.interface.specs.declared.Roll.{Roll}
 use Rattle.interface.specs.declared.Plain.{Plain}
-use Rattle.interface.specs.declared.RackRead.{RackRead}
-use Rattle.interface.specs.declared.RollRead.{RollRead}
 use Rattle.interface.specs.Contents.{key-of, bytes-in, keys-of, places-of, rack-of, roll-of, statement-of}
-use Rattle.interface.specs.Calls.{rack-given, reading-rack, writing-rack, roll-given, reading-roll, writing-roll, reading-statement, writing-statement}
-use Rattle.interface.proofs.LayoutTrips.{written-front, written-again}
+use Rattle.interface.specs.Calls.{rack-given, reading-rack, writing-rack, roll-given, reading-roll, writing-roll, statement-given, reading-statement, writing-statement}
+use Rattle.interface.proofs.LayoutTrips.{Written-as, front, read-written, written-read}
 use Rattle.interface.proofs.KindTrips.{Typed, statement-again, plain-again, typed-shaped}
-
--- a string is written at the front of an area
-abbrev pub Written-as : List ℕ → List ℕ → Written
-Written-as s area = record { answer = accepted; count = length s; area = put area 0 s }
-
--- the bytes that a writing reports
-abbrev pub front : Written → List ℕ
-front w = take (w .count) (w .area)
 
 keys-again : (keys : List (List ℕ)) → keys-of (places-of keys) ≡ keys
 unfolding keys-of places-of
@@ -67,23 +54,16 @@ places-again places = go places
 
 pub rack-read-written :
     (s area : List ℕ) → reading-rack s .number ≡ accepted → length s ≤ length area → writing-rack (reading-rack s .rack) area ≡ Written-as s area
-unfolding read rack-given reading-rack writing-rack
-rack-read-written s area = go (holds rack-layout s) refl
-  where
-    given : Bool → RackRead
-    given h = rack-given (cond h (some (rack-layout .cut s)) none)
-
-    go : (h : Bool) → holds rack-layout s ≡ h → given h .number ≡ accepted → length s ≤ length area → writing rack-layout rack-broken (rack-of (given h .rack)) area ≡ Written-as s area
-    go true h e l = rw (keys-again (rack-layout .cut s .keys)) (written-again rack-layout rack-broken s area h l)
-    go false h e l = let z : _≡_ {A = ℕ} rack-broken accepted = e in absurd (omega arith)
+unfolding rack-given reading-rack writing-rack
+rack-read-written s area =
+    read-written rack-layout rack-broken (lit< tt) rack-of rack-given (λ r. r .number) (λ r. r .rack) s area refl (λ h. rw (keys-again (rack-layout .cut s .keys)))
 
 pub rack-written-read :
     (r : Rack) (area : List ℕ) → rack-shape.Shaped (rack-of r) → writing-rack r area .answer ≡ accepted
     → reading-rack (front (writing-rack r area)) ≡ record { number = accepted; rack = r }
-unfolding writing-rack reading-rack rack-given
-rack-written-read r area w e =
-    let f = written-front rack-layout rack-broken (rack-of r) area (lit< tt) e in
-    ap reading-rack (f .1) ∙ ap rack-given (rack-written-reads (rack-of r) w (f .0)) ∙ rw (places-again (r .keys))
+unfolding rack-given reading-rack writing-rack
+rack-written-read r area w =
+    written-read rack-layout rack-broken (lit< tt) rack-of rack-given (λ r. r .number) (λ r. r .rack) r _ area (rack-written-reads (rack-of r) w) (λ f. rw (places-again (r .keys)))
 
 octets-append : (a b : List ℕ) → Octets a → Octets b → Octets (a ++ b)
 octets-append [] b p q i = q i
@@ -113,36 +93,29 @@ table-again s o h =
 
 pub roll-read-written :
     (s area : List ℕ) → Octets s → reading-roll s .number ≡ accepted → length s ≤ length area → writing-roll (reading-roll s .roll) area ≡ Written-as s area
-unfolding read roll-given reading-roll writing-roll
-roll-read-written s area o = go (holds roll-layout s) refl
-  where
-    given : Bool → RollRead
-    given h = roll-given (cond h (some (roll-layout .cut s)) none)
-
-    go : (h : Bool) → holds roll-layout s ≡ h → given h .number ≡ accepted → length s ≤ length area → writing roll-layout roll-broken (roll-of (given h .roll)) area ≡ Written-as s area
-    go true h e l = rw (table-again s o h) (written-again roll-layout roll-broken s area h l)
-    go false h e l = let z : _≡_ {A = ℕ} roll-broken accepted = e in absurd (omega arith)
+unfolding roll-given reading-roll writing-roll
+roll-read-written s area o =
+    read-written roll-layout roll-broken (lit< tt) roll-of roll-given (λ r. r .number) (λ r. r .roll) s area refl (λ h. rw (table-again s o h))
 
 pub roll-written-read :
     (r : Roll) (area : List ℕ) → length (r .rows) ≡ most-rows → AllTyped (r .rows) → writing-roll r area .answer ≡ accepted
     → reading-roll (front (writing-roll r area)) ≡ record { number = accepted; roll = r }
-unfolding writing-roll reading-roll roll-given
-roll-written-read r area n t e =
-    let f = written-front roll-layout roll-broken (roll-of r) area (lit< tt) e in
+unfolding roll-given reading-roll writing-roll
+roll-written-read r area n t =
     let b : rows-of most-rows (flattened (r .rows)) ≡ r .rows = ap (λ (k : ℕ). rows-of k (flattened (r .rows))) (sym n) ∙ rows-flattened t in
-    ap reading-roll (f .1) ∙ ap roll-given (written-reads-back (roll-of r) (f .0)) ∙ rw b
+    written-read roll-layout roll-broken (lit< tt) roll-of roll-given (λ r. r .number) (λ r. r .roll) r _ area (written-reads-back (roll-of r)) (λ f. rw b)
 
 pub statement-read-written :
     (s area : List ℕ) → Octets s → reading-statement s .number ≡ accepted → length s ≤ length area → writing-statement (reading-statement s .statement) area ≡ Written-as s area
-unfolding reading-statement writing-statement
-statement-read-written s area o e l =
-    let h : holds statement-layout s ≡ true = reading-holds s e in
-    rw (reading-cut s h, statement-again (cut-statement s) (cut-shaped s o .numbers)) (written-again statement-layout statement-not-asked s area h l)
+unfolding statement-given reading-statement writing-statement
+statement-read-written s area o =
+    read-written statement-layout statement-not-asked (lit< tt) statement-of statement-given (λ r. r .number) (λ r. r .statement) s area refl
+    (λ h. statement-again (cut-statement s) (cut-shaped s o .numbers))
 
 pub statement-written-read :
     (p : Plain) (area : List ℕ) → Typed p → writing-statement p area .answer ≡ accepted
     → reading-statement (front (writing-statement p area)) ≡ record { number = accepted; statement = p }
-unfolding writing-statement reading-statement
-statement-written-read p area t e =
-    let f = written-front statement-layout statement-not-asked (statement-of p) area (lit< tt) e in
-    ap reading-statement (f .1) ∙ rw (written-reading (statement-of p) (typed-shaped p t) (f .0)) (rw (plain-again p (fits-kind (statement-of p) (f .0))))
+unfolding statement-given reading-statement writing-statement
+statement-written-read p area t =
+    written-read statement-layout statement-not-asked (lit< tt) statement-of statement-given (λ r. r .number) (λ r. r .statement) p _ area
+    (statement-back (statement-of p) (typed-shaped p t)) (λ f. rw (plain-again p (fits-kind (statement-of p) f)))

@@ -1,12 +1,14 @@
 -- What the readings below give, as C has it. Assumes nothing.
 use mathlib.Core.Path.{_≡_, refl, ap, _∙_}
+use mathlib.Core.Bool.{Bool, true, false, cond}
 use mathlib.Core.List.{List, map}
 use mathlib.Core.Option.{Option, none, some}
 use Prim.Native.Nat.{ℕ, _*_}
 use native.Mathlib.Omega.{arith}
 use lib.ListN.{replicate}
 use Rattle.octets.specs.Numbers.{number-of}
-use Rattle.octets.specs.Layouts.{read}
+use Rattle.refusals.specs.{accepted, statement-not-asked}
+use Rattle.octets.specs.Layouts.{holds, read}
 use Rattle.octets.proofs.Pieces.{pieces-zeros}
 use Rattle.rack.specs.Racks as rack
 use Rattle.rack.specs.Racks.{most, key-bytes, rack-layout}
@@ -14,11 +16,16 @@ use Rattle.rack.specs.Promise.{Taken, taken, reading}
 use Rattle.rows.specs.Sizes.{most-rows, row-bytes, table-bytes}
 use Rattle.roll.specs.Roll as roll
 use Rattle.roll.specs.Roll.{Reading, roll-layout, outcome}
+use Rattle.statement.specs.declared.Reading as statement
+use Rattle.statement.specs.Cut.{blank-statement, cut-statement}
+use Rattle.statement.specs.Layout as layout
+use Rattle.statement.specs.Layout.{statement-layout}
 use Rattle.table.specs.Flat.{row-cut, rows-of}
 use Rattle.interface.specs.declared.RackRead.{RackRead}
 use Rattle.interface.specs.declared.RollRead.{RollRead}
-use Rattle.interface.specs.Contents.{places-of}
-use Rattle.interface.specs.Calls.{rack-given, reading-rack, no-row, roll-given, reading-roll}
+use Rattle.interface.specs.declared.StatementRead.{StatementRead}
+use Rattle.interface.specs.Contents.{places-of, plain-of}
+use Rattle.interface.specs.Calls.{rack-given, reading-rack, no-row, roll-given, reading-roll, statement-given, reading-statement}
 use Rattle.interface.proofs.Mapped.{mapped-same}
 
 abbrev rack-as : Taken → RackRead
@@ -52,3 +59,17 @@ roll-is (some r) z e = refl
 pub roll-taken : (s : List ℕ) (t : Reading) → t ≡ roll.reading-roll s (replicate table-bytes 0) → roll-as t ≡ reading-roll s
 unfolding roll.reading-roll reading-roll
 roll-taken s t e = ap roll-as e ∙ roll-is (read roll-layout s) (replicate table-bytes 0) (zero-rows most-rows table-bytes refl)
+
+abbrev statement-as : statement.Reading → StatementRead
+statement-as t = record { number = t .answer; statement = plain-of (t .statement) }
+
+pub statement-taken : (s : List ℕ) (t : statement.Reading) → t ≡ layout.reading s → statement-as t ≡ reading-statement s
+unfolding layout.reading blank-statement read plain-of statement-given reading-statement
+statement-taken s t e = ap statement-as e ∙ go (holds statement-layout s)
+  where
+    go :
+        (h : Bool)
+        → statement-as (cond h (record { answer = accepted; statement = cut-statement s }) (record { answer = statement-not-asked; statement = blank-statement }))
+        ≡ statement-given (cond h (some (cut-statement s)) none)
+    go true = refl
+    go false = refl

@@ -115,7 +115,9 @@ module _ (number height : ℕ) (nonce : List ℕ) where
 
 pub plain-again : (p : Plain) → 0 < kind-number (statement-of p .kind) → plain-of (statement-of p) ≡ p
 unfolding plain-of statement-of
-plain-again p h = let f : Found (p .kind) (p .height) (p .nonce) (kind-of (p .kind) (p .height) (p .nonce)) = found (p .kind) (p .height) (p .nonce) h in rw (f .its-number, f .its-height, f .its-nonce)
+plain-again p h =
+    let f : Found (p .kind) (p .height) (p .nonce) (kind-of (p .kind) (p .height) (p .nonce)) = found (p .kind) (p .height) (p .nonce) h in
+    rw (f .its-number, f .its-height, f .its-nonce)
 
 pub typed-shaped : (p : Plain) → Typed p → Shaped (statement-of p)
 unfolding statement-of

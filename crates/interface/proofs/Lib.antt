@@ -3,5 +3,6 @@ pub mod Mapped
 pub mod Given
 pub mod LayoutTrips
 pub mod KindTrips
+pub mod Types
 pub mod CallTrips
 pub mod Outcomes

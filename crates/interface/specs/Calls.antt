@@ -11,7 +11,8 @@ use Rattle.rack.specs.Racks.{most, key-bytes, rack-layout}
 use Rattle.rows.specs.Sizes.{most-rows, label-bytes, tail-bytes}
 use Rattle.roll.specs.Roll as roll
 use Rattle.roll.specs.Roll.{roll-layout}
-use Rattle.statement.specs.Layout.{statement-layout, reading}
+use Rattle.statement.specs.declared.Statement.{Statement}
+use Rattle.statement.specs.Layout.{statement-layout}
 use Rattle.table.specs.declared.Row.{Row}
 use Rattle.table.specs.Flat.{rows-of}
 use Rattle.interface.specs.declared.Rack.{Rack}
@@ -20,7 +21,7 @@ use Rattle.interface.specs.declared.Plain.{Plain}
 use Rattle.interface.specs.declared.RackRead.{RackRead}
 use Rattle.interface.specs.declared.RollRead.{RollRead}
 use Rattle.interface.specs.declared.StatementRead.{StatementRead}
-use Rattle.interface.specs.Contents.{key-of, places-of, rack-of, roll-of, plain-of, statement-of}
+use Rattle.interface.specs.Contents.{key-of, places-of, rack-of, roll-of, plain-of, no-plain, statement-of}
 
 -- "Result fields not named for an answer are zero."
 unfoldable pub rack-given : Option rack.Rack → RackRead
@@ -46,9 +47,12 @@ reading-roll s = roll-given (read roll-layout s)
 unfoldable pub writing-roll : Roll → List ℕ → Written
 writing-roll r area = writing roll-layout roll-broken (roll-of r) area
 
--- of no statement every field is zero
+unfoldable pub statement-given : Option Statement → StatementRead
+statement-given none = record { number = statement-not-asked; statement = no-plain }
+statement-given (some v) = record { number = accepted; statement = plain-of v }
+
 unfoldable pub reading-statement : List ℕ → StatementRead
-reading-statement s = record { number = reading s .answer; statement = plain-of (reading s .statement) }
+reading-statement s = statement-given (read statement-layout s)
 
 unfoldable pub writing-statement : Plain → List ℕ → Written
 writing-statement p area = writing statement-layout statement-not-asked (statement-of p) area

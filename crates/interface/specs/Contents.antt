@@ -13,6 +13,7 @@ use Rattle.statement.specs.declared.Kind.{Kind}
 use Rattle.statement.specs.declared.Kind.the-variants.{Blank, New, Append, Read, Finalise, Initialise}
 use Rattle.statement.specs.declared.Statement.{Statement}
 use Rattle.statement.specs.Kinds.{kind-number, number-bytes}
+use Rattle.statement.specs.Cut.{no-digest, no-label}
 use Rattle.table.specs.Flat.{flattened}
 use Rattle.desk.specs.Verdict.{height-in}
 use Rattle.interface.specs.declared.Key.{Key}
@@ -56,7 +57,22 @@ nonce-in Initialise = no-nonce
 
 unfoldable pub plain-of : Statement → Plain
 plain-of v =
-    record { kind = kind-number (v .kind); identity = v .identity; own = v .own; other = v .other; roll = v .roll; label = v .label; tail = v .tail; nonce = nonce-in (v .kind); height = height-in (v .kind) }
+    record {
+      kind = kind-number (v .kind);
+      identity = v .identity;
+      own = v .own;
+      other = v .other;
+      roll = v .roll;
+      label = v .label;
+      tail = v .tail;
+      nonce = nonce-in (v .kind);
+      height = height-in (v .kind);
+    }
+
+-- every field zero
+abbrev pub no-plain : Plain
+no-plain =
+    record { kind = 0; identity = no-digest; own = no-digest; other = no-digest; roll = no-digest; label = no-label; tail = no-digest; nonce = no-nonce; height = 0 }
 
 -- "1 new, 2 append", "3 read", "4 finalise", "5 initialise"; no other number is a kind's
 unfoldable pub kind-named : ℕ → ℕ → List ℕ → Kind

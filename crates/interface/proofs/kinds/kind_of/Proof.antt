@@ -25,6 +25,15 @@ decided n h nonce k p q e t u = rw (← e, t, u)
 its-height : (c : tie.Else1) → eqb (height-in (c .before .before .kind-named .result)) (c .before .before .before .args .height) ≡ true
 its-height c = eq-eqb _ _ (sym (c .before .height-in .ensures) ∙ c .if1 .left)
 
+-- past the first test the second decides
+past :
+    (c : tie.After-is-same) (q : Bool) → c .is-same .result ≡ q
+    → cond q (c .before .before .before .before .before .before .kind-named .result) Blank ≡ kind-of (c .before .before .before .before .before .before .before .args .number) (c .before .before .before .before .before .before .before .args .height) (now (c .before .before .before .before .before .before .before .args .nonce))
+past c q e =
+    let nonce : List ℕ = now (c .before .before .before .before .before .before .before .args .nonce) in
+    decided _ _ _ _ true q (c .before .before .before .before .before .before .kind-named .ensures) (its-height (c .before .before .before .before))
+    (ap (λ (x : List ℕ). same x nonce) (sym (c .before .before .before .nonce-in .ensures)) ∙ sym (c .is-same .ensures) ∙ e)
+
 kind-named-requires : tie.Need-kind-named-requires
 kind-named-requires c κs = search needs
 
@@ -46,10 +55,10 @@ is-same-requires : tie.Need-is-same-requires
 is-same-requires c κs = search needs
 
 returns-2 : tie.Need-returns-2
-returns-2 c = decided _ _ _ _ true false (c .before .before .before .before .before .before .before .kind-named .ensures) (its-height (c .before .before .before .before .before)) (ap (λ (x : List ℕ). same x (now (c .before .before .before .before .before .before .before .before .args .nonce))) (sym (c .before .before .before .before .nonce-in .ensures)) ∙ sym (c .before .is-same .ensures) ∙ not-true _ (c .if2 .taken))
+returns-2 c = past (c .before) false (not-true _ (c .if2 .taken))
 
 returns-3 : tie.Need-returns-3
-returns-3 c = decided _ _ _ _ true true (c .before .before .before .before .before .before .before .kind-named .ensures) (its-height (c .before .before .before .before .before)) (ap (λ (x : List ℕ). same x (now (c .before .before .before .before .before .before .before .before .args .nonce))) (sym (c .before .before .before .before .nonce-in .ensures)) ∙ sym (c .before .is-same .ensures) ∙ not-false _ (c .if2 .left))
+returns-3 c = past (c .before) true (not-false _ (c .if2 .left))
 
 pub kind-of-spec : {M : Type 1} → statement M
 kind-of-spec =
