@@ -1,0 +1,182 @@
+/* The story: a matinee, an evening with a handover in the interval, and seven things that must not work. */
+#include "venue.h"
+
+static rack a, b;
+static desk console;
+static store server;
+static pile matinee, tonight, finals;
+static handover bundle;
+
+void must(bool holds, const char *what) {
+    if (holds)
+        return;
+    fflush(stdout);
+    fprintf(stderr, "venue: this does not hold: %s\n", what);
+    exit(1);
+}
+
+static void refused(uint32_t number, uint32_t expected, const char *meaning) {
+    must(number == expected, meaning);
+    printf("   Refused with %u: %s.\n", number, meaning);
+}
+
+static void wake(rack *r, char name) {
+    for (size_t i = 0; i < BOXES; i++)
+        box_wake(&r->boxes[i], (char[]){name, (char)('1' + i), 0});
+    messenger_list(r);
+}
+
+static void record(rack *r, const char *cue) {
+    request q = desk_ask(&console, MAHQURITH_APPEND);
+    digest_text(cue, q.asked.entry);
+    server.cues[server.count++] = cue;
+    q.asked.expected = server.count;
+    pile p = messenger_carry(r, &q);
+    mahqurith_finding found = desk_judge(&console, &console.list, &p);
+    must(desk_shows(&found, &server), "the desk accepts a cue");
+    printf("%s. %zu of 5 boxes sign: recorded.\n", cue, p.count);
+}
+
+/* The replies to a reading with a new nonce. */
+static pile ask(rack *r) {
+    request q = desk_ask(&console, MAHQURITH_READ);
+    return messenger_carry(r, &q);
+}
+
+static pile open_ledger(rack *r) {
+    pile p = ask(r);
+    mahqurith_finding found = desk_judge(&console, &console.list, &p);
+    must(desk_shows(&found, &server), "the desk opens the ledger");
+    printf("The desk opens the ledger: %zu of 5 boxes reply, and agree on %d cues with the tail %02x%02x%02x%02x. The server's texts fit.\n", p.count,
+           (int)found.height, found.tail[0], found.tail[1], found.tail[2], found.tail[3]);
+    return p;
+}
+
+static void found_rack(void) {
+    puts("THE RACK IS FOUNDED\nFive boxes wake, each with a key of its own: A1 to A5, together rack A.");
+    wake(&a, 'A');
+    request q = {.kind = MAHQURITH_INITIALISE, .list = a.list};
+    must(messenger_carry(&a, &q).count == BOXES, "five boxes found the rack");
+    memcpy(console.question.identity, a.boxes[0].head.identity, MAHQURITH_DIGEST);
+    memcpy(console.question.label, "tour, cue edits", MAHQURITH_LABEL);
+    console.list = a.list;
+    q = desk_ask(&console, MAHQURITH_NEW);
+    pile p = messenger_carry(&a, &q);
+    must(desk_judge(&console, &a.list, &p).number == MAHQURITH_ACCEPTED, "the desk accepts a new ledger");
+    puts("The desk notes the rack's identity, for the whole tour, and has a ledger made for the cue edits.");
+}
+
+static void first_half(void) {
+    puts("\nTHE MATINEE");
+    record(&a, "Cue 1: house lights to half, 5 seconds");
+    record(&a, "Cue 2: moonlight from stage left at 40 percent");
+    matinee = open_ledger(&a);
+    puts("\nTHE EVENING, FIRST HALF");
+    record(&a, "Cue 3: moonlight at 55 percent, as 40 was too dark");
+    puts("Box A5 is out of reach for one cue.");
+    a.boxes[4].silent = true;
+    record(&a, "Cue 4: blackout at the end of the act");
+    a.boxes[4].silent = false;
+}
+
+static void hand_over(void) {
+    puts("\nTHE INTERVAL\nBox A3 dies. The four others and a spare wake anew, each with a new key: B1 to B5, together rack B.");
+    a.boxes[2].silent = true;
+    wake(&b, 'B');
+    finals = messenger_carry(&a, &(request){.kind = MAHQURITH_FINALISE, .list = b.list});
+    must(finals.count == 4, "four boxes finalise");
+    puts("Each box of rack A that is alive signs what it has and that rack B follows, then its chip erases the key: rack A is retired.");
+    request q = {.kind = MAHQURITH_INITIALISE, .roll = messenger_roll(&finals), .previous = a.list, .list = b.list};
+    memcpy(q.asked.identity, console.question.identity, MAHQURITH_DIGEST);
+    pile initials = messenger_carry(&b, &q);
+    must(initials.count == BOXES, "five boxes take over");
+    puts("Each box of rack B takes the newest list over and signs that it did. It does not use it yet.\n"
+         "The messenger brings each the signatures of both racks, and the cue that box A5 missed, in a bundle. Each has its own chip check them.");
+    bundle = messenger_bundle(&a, &b, &finals, &initials, &server);
+    for (size_t i = 0; i < 4; i++)
+        must(box_activate(&b.boxes[i], &bundle) == MAHQURITH_ACCEPTED, "a box is activated");
+    puts("Boxes B1 to B4 find all of it good: active. Box B5's cable has come loose; it waits for its bundle.");
+    b.boxes[4].silent = true;
+    console.list = b.list;
+}
+
+static void second_half(void) {
+    puts("\nTHE EVENING, SECOND HALF");
+    record(&b, "Cue 5: sunrise, 90 seconds");
+    puts("Box B4 stops replying.");
+    b.boxes[3].silent = true;
+    tonight = open_ledger(&b);
+}
+
+static void one_box_alone(void) {
+    puts("1. One box alone. Box A3 is mended. It has not heard of the handover and signs the list without cue 5, with the desk's new nonce.");
+    a.boxes[2].silent = false;
+    pile p = ask(&a);
+    must(p.count == 1, "one box of rack A still signs");
+    refused(desk_judge(&console, &a.list, &p).number, MAHQURITH_TOO_FEW, "one box is not more than half of a rack of five");
+}
+
+static void retired_rack(void) {
+    uint8_t signature[SIGNATURE];
+    request q = desk_ask(&console, MAHQURITH_READ);
+    puts("2. A retired rack asked again. The messenger asks box A1 for the list.");
+    refused(box_answer(&a.boxes[0], &q).answer.number, MAHQURITH_NOT_ACTIVE, "the box is not active, since it is retired");
+    must(!chip_sign(&a.boxes[0].chip, &matinee.replies[0].statement, signature), "an erased key signs nothing");
+    puts("   Its chip could not sign either: the key is erased.");
+}
+
+static void stale_lists(void) {
+    puts("3. The list of the show before. The messenger brings the matinee's reading, signed by five boxes of rack A.");
+    desk_ask(&console, MAHQURITH_READ);
+    refused(desk_judge(&console, &b.list, &matinee).number, MAHQURITH_STATEMENT_NOT_ASKED, "it speaks of rack A, and the desk asks rack B");
+    puts("   The messenger says that rack A is the rack to ask.");
+    refused(desk_judge(&console, &a.list, &matinee).number, MAHQURITH_NONCE_DIFFERS, "it has the nonce of the matinee");
+    puts("4. A replayed nonce. The messenger brings tonight's reading once more, signed by three boxes of rack B.");
+    refused(desk_judge(&console, &b.list, &tonight).number, MAHQURITH_NONCE_DIFFERS, "it has a nonce that was answered before");
+}
+
+static void signature_twice(void) {
+    puts("5. A signature listed twice. Two boxes sign with the new nonce; the messenger lists one of them twice, to make three.");
+    pile p = ask(&b);
+    p.replies[2] = p.replies[1];
+    refused(desk_judge(&console, &b.list, &p).number, MAHQURITH_LIST_BROKEN, "a list names each box at most once");
+}
+
+static void forged_bundle(void) {
+    handover forged = bundle;
+    puts("6. A forged bundle. Box B5 is back and waits. The messenger puts box A5's older list in the place of what box A1 signed.");
+    memcpy(forged.bundle.bytes + 4, finals.replies[3].roll.bytes, MAHQURITH_BLOCK);
+    refused(box_activate(&b.boxes[4], &forged), MAHQURITH_SIGNATURE_NOT_VALID, "box A1's signature is not valid for this list");
+    puts("   The messenger lists box A1 twice and leaves box A2 out.");
+    forged = bundle;
+    memcpy(forged.bundle.bytes + 4 + MAHQURITH_BLOCK, forged.bundle.bytes + 1, 3 + MAHQURITH_BLOCK);
+    refused(box_activate(&b.boxes[4], &forged), MAHQURITH_LIST_BROKEN, "a bundle names each box at most once");
+    must(box_activate(&b.boxes[4], &bundle) == MAHQURITH_ACCEPTED, "the true bundle is accepted");
+    puts("   With the true bundle box B5 becomes active.");
+}
+
+static void two_heirs(void) {
+    puts("7. Two heirs. The messenger asks box A1 to finalise again, and names a rack of box A3 alone as the next.");
+    request q = {.kind = MAHQURITH_FINALISE};
+    add(&q.list, (uint8_t[]){1}, 1);
+    add(&q.list, a.boxes[2].chip.key, MAHQURITH_KEY);
+    reply again = box_answer(&a.boxes[0], &q);
+    must(again.answer.number == MAHQURITH_ACCEPTED && again.answer.repeat && !again.is_signed, "a second finalise is a repeat");
+    must(memcmp(&again.statement, &finals.replies[0].statement, sizeof(message)) == 0, "a second finalise gives the first statement");
+    puts("   Not refused, and of no use: the box repeats its first statement, which names rack B, and signs nothing.");
+}
+
+int main(void) {
+    found_rack();
+    first_half();
+    hand_over();
+    second_half();
+    puts("\nWHAT MUST NOT WORK");
+    one_box_alone();
+    retired_rack();
+    stale_lists();
+    signature_twice();
+    forged_bundle();
+    two_heirs();
+    return 0;
+}
