@@ -46,9 +46,10 @@ static pile ask(rack *r) {
 static pile open_ledger(rack *r) {
     pile p = ask(r);
     mahqurith_finding found = desk_judge(&console, &console.list, &p);
+    const uint8_t *tail = found.tail;
     must(desk_shows(&found, &server), "the desk opens the ledger");
-    printf("The desk opens the ledger: %zu of 5 boxes reply, and agree on %d cues with the tail %02x%02x%02x%02x. The server's texts fit.\n", p.count,
-           (int)found.height, found.tail[0], found.tail[1], found.tail[2], found.tail[3]);
+    printf("The desk opens the ledger: %zu of 5 boxes reply and agree on %d cues, with the tail %02x%02x%02x%02x.\n"
+           "The texts on the server fit that tail.\n", p.count, (int)found.height, tail[0], tail[1], tail[2], tail[3]);
     return p;
 }
 
@@ -79,25 +80,26 @@ static void first_half(void) {
     a.boxes[4].silent = false;
 }
 
-static void hand_over(void) {
-    puts("\nTHE INTERVAL\nBox A3 dies. The four others and a spare wake anew, each with a new key: B1 to B5, together rack B.");
+static void interval(void) {
+    puts("\nTHE INTERVAL\nBox A3 dies. The four others and a spare each make a new key, with an empty record: B1 to B5, together rack B.");
     a.boxes[2].silent = true;
     wake(&b, 'B');
     finals = messenger_carry(&a, &(request){.kind = MAHQURITH_FINALISE, .list = b.list});
     must(finals.count == 4, "four boxes finalise");
-    puts("Each box of rack A that is alive signs what it has and that rack B follows, then its chip erases the key: rack A is retired.");
+    puts("Boxes A1, A2, A4 and A5 sign what they have and that rack B follows. Then their chips erase the keys: rack A is retired.");
     request q = {.kind = MAHQURITH_INITIALISE, .roll = messenger_roll(&finals), .previous = a.list, .list = b.list};
     memcpy(q.asked.identity, console.question.identity, MAHQURITH_DIGEST);
     pile initials = messenger_carry(&b, &q);
     must(initials.count == BOXES, "five boxes take over");
-    puts("Each box of rack B takes the newest list over and signs that it did. It does not use it yet.\n"
-         "The messenger brings each the signatures of both racks, and the cue that box A5 missed, in a bundle. Each has its own chip check them.");
     bundle = messenger_bundle(&a, &b, &finals, &initials, &server);
     for (size_t i = 0; i < 4; i++)
         must(box_activate(&b.boxes[i], &bundle) == MAHQURITH_ACCEPTED, "a box is activated");
-    puts("Boxes B1 to B4 find all of it good: active. Box B5's cable has come loose; it waits for its bundle.");
     b.boxes[4].silent = true;
     console.list = b.list;
+    puts("Boxes B1 to B5 take the newest list over and sign that they did, but do not use it yet.\n"
+         "The messenger brings each of them a bundle: the signatures of both racks, and the cue that box A5 missed.\n"
+         "Boxes B1 to B4 have their own chips check it and find all of it good: they are active.\n"
+         "Box B5 has a loose cable and waits for its bundle.");
 }
 
 static void second_half(void) {
@@ -108,56 +110,49 @@ static void second_half(void) {
     tonight = open_ledger(&b);
 }
 
-static void one_box_alone(void) {
-    puts("1. One box alone. Box A3 is mended. It has not heard of the handover and signs the list without cue 5, with the desk's new nonce.");
+static void asked_of_rack_a(void) {
+    uint8_t signature[SIGNATURE];
+    puts("1. One box alone. Box A3 is mended and knows of no handover: with the desk's new nonce it signs the list without cue 5.");
     a.boxes[2].silent = false;
     pile p = ask(&a);
     must(p.count == 1, "one box of rack A still signs");
     refused(desk_judge(&console, &a.list, &p).number, MAHQURITH_TOO_FEW, "one box is not more than half of a rack of five");
-}
-
-static void retired_rack(void) {
-    uint8_t signature[SIGNATURE];
-    request q = desk_ask(&console, MAHQURITH_READ);
     puts("2. A retired rack asked again. The messenger asks box A1 for the list.");
+    request q = desk_ask(&console, MAHQURITH_READ);
     refused(box_answer(&a.boxes[0], &q).answer.number, MAHQURITH_NOT_ACTIVE, "the box is not active, since it is retired");
     must(!chip_sign(&a.boxes[0].chip, &matinee.replies[0].statement, signature), "an erased key signs nothing");
     puts("   Its chip could not sign either: the key is erased.");
 }
 
-static void stale_lists(void) {
+static void brought_to_the_desk(void) {
     puts("3. The list of the show before. The messenger brings the matinee's reading, signed by five boxes of rack A.");
-    desk_ask(&console, MAHQURITH_READ);
+    pile p = ask(&b);
     refused(desk_judge(&console, &b.list, &matinee).number, MAHQURITH_STATEMENT_NOT_ASKED, "it speaks of rack A, and the desk asks rack B");
-    puts("   The messenger says that rack A is the rack to ask.");
+    puts("   The messenger says that rack A is the one to ask.");
     refused(desk_judge(&console, &a.list, &matinee).number, MAHQURITH_NONCE_DIFFERS, "it has the nonce of the matinee");
     puts("4. A replayed nonce. The messenger brings tonight's reading once more, signed by three boxes of rack B.");
-    refused(desk_judge(&console, &b.list, &tonight).number, MAHQURITH_NONCE_DIFFERS, "it has a nonce that was answered before");
-}
-
-static void signature_twice(void) {
-    puts("5. A signature listed twice. Two boxes sign with the new nonce; the messenger lists one of them twice, to make three.");
-    pile p = ask(&b);
+    refused(desk_judge(&console, &b.list, &tonight).number, MAHQURITH_NONCE_DIFFERS, "it has the nonce of an earlier question");
+    puts("5. A signature listed twice. The messenger brings new signatures of two boxes, one of them twice, to make three.");
     p.replies[2] = p.replies[1];
-    refused(desk_judge(&console, &b.list, &p).number, MAHQURITH_LIST_BROKEN, "a list names each box at most once");
+    refused(desk_judge(&console, &b.list, &p).number, MAHQURITH_LIST_BROKEN, "a list names each box once at most");
 }
 
 static void forged_bundle(void) {
     handover forged = bundle;
-    puts("6. A forged bundle. Box B5 is back and waits. The messenger puts box A5's older list in the place of what box A1 signed.");
+    puts("6. A forged bundle. Box B5 still waits. The messenger puts box A5's older list in the place of what box A1 signed.");
     memcpy(forged.bundle.bytes + 4, finals.replies[3].roll.bytes, MAHQURITH_BLOCK);
     refused(box_activate(&b.boxes[4], &forged), MAHQURITH_SIGNATURE_NOT_VALID, "box A1's signature is not valid for this list");
-    puts("   The messenger lists box A1 twice and leaves box A2 out.");
+    puts("   The messenger leaves box A2 out and lists box A1 twice.");
     forged = bundle;
     memcpy(forged.bundle.bytes + 4 + MAHQURITH_BLOCK, forged.bundle.bytes + 1, 3 + MAHQURITH_BLOCK);
-    refused(box_activate(&b.boxes[4], &forged), MAHQURITH_LIST_BROKEN, "a bundle names each box at most once");
+    refused(box_activate(&b.boxes[4], &forged), MAHQURITH_LIST_BROKEN, "a bundle names each box once at most");
     must(box_activate(&b.boxes[4], &bundle) == MAHQURITH_ACCEPTED, "the true bundle is accepted");
     puts("   With the true bundle box B5 becomes active.");
 }
 
 static void two_heirs(void) {
-    puts("7. Two heirs. The messenger asks box A1 to finalise again, and names a rack of box A3 alone as the next.");
     request q = {.kind = MAHQURITH_FINALISE};
+    puts("7. Two heirs. The messenger asks box A1 to finalise again, and names box A3 alone as the next rack.");
     add(&q.list, (uint8_t[]){1}, 1);
     add(&q.list, a.boxes[2].chip.key, MAHQURITH_KEY);
     reply again = box_answer(&a.boxes[0], &q);
@@ -169,14 +164,11 @@ static void two_heirs(void) {
 int main(void) {
     found_rack();
     first_half();
-    hand_over();
+    interval();
     second_half();
     puts("\nWHAT MUST NOT WORK");
-    one_box_alone();
-    retired_rack();
-    stale_lists();
-    signature_twice();
+    asked_of_rack_a();
+    brought_to_the_desk();
     forged_bundle();
     two_heirs();
-    return 0;
 }

@@ -12,7 +12,6 @@
 enum { BOXES = 5, SIGNATURE = 64, LONGEST = 4096 /* of the evening's messages */ };
 
 typedef struct { size_t length; uint8_t bytes[LONGEST]; } message;
-
 typedef struct { EVP_PKEY *secret; /* null once it is erased */ uint8_t key[MAHQURITH_KEY]; } chip;
 
 typedef struct {
@@ -56,7 +55,6 @@ typedef struct {
 void must(bool holds, const char *what);
 void add(message *m, const uint8_t *bytes, size_t length);
 void digest_text(const char *text, uint8_t digest[MAHQURITH_DIGEST]);
-
 void chip_make(chip *c, const char *name);
 bool chip_sign(const chip *c, const message *m, uint8_t signature[SIGNATURE]);
 void chip_erase(chip *c);
