@@ -21,10 +21,9 @@ mahqurith_finding desk_judge(const desk *d, const message *list, const pile *p) 
     const message *statement = &p->replies[0].statement;
     uint8_t signers[2 * BOXES] = {0};
     for (size_t i = 0; i < p->count; i++) {
-        uint8_t position = p->replies[i].position;
-        signers[2 * i] = position;
-        if (position < rack.count)
-            signers[2 * i + 1] = chip_marks(rack.keys[position], statement, p->replies[i].signature);
+        const reply *r = &p->replies[i];
+        signers[2 * i] = r->position;
+        signers[2 * i + 1] = r->position < rack.count ? chip_marks(rack.keys[r->position], statement, r->signature) : 0;
     }
     return mahqurith_verdict(d->question, BYTES(*list), BYTES(*statement), signers, 2 * p->count);
 }

@@ -16,8 +16,8 @@ void must(bool holds, const char *what) {
 }
 
 static void refused(uint32_t number, uint32_t expected, const char *meaning) {
-    must(number == expected, meaning);
     printf("   Refused with %u: %s.\n", number, meaning);
+    must(number == expected, "this refusal is the expected one");
 }
 
 static void wake(rack *r, char name) {
@@ -48,13 +48,13 @@ static pile open_ledger(rack *r) {
     mahqurith_finding found = desk_judge(&console, &console.list, &p);
     const uint8_t *tail = found.tail;
     must(desk_shows(&found, &server), "the desk opens the ledger");
-    printf("The desk opens the ledger: %zu of 5 boxes reply and agree on %d cues, with the tail %02x%02x%02x%02x.\n"
-           "The texts on the server fit that tail.\n", p.count, (int)found.height, tail[0], tail[1], tail[2], tail[3]);
+    printf("The desk opens the ledger: %zu of 5 boxes reply and agree on %d cues, newest hash %02x%02x%02x%02x.\n"
+           "The texts on the server fit this hash.\n", p.count, (int)found.height, tail[0], tail[1], tail[2], tail[3]);
     return p;
 }
 
 static void found_rack(void) {
-    puts("THE RACK IS FOUNDED\nFive boxes wake, each with a key of its own: A1 to A5, together rack A.");
+    puts("\nTHE RACK IS FOUNDED\nFive boxes wake, each with a key of its own: A1 to A5, together rack A.");
     wake(&a, 'A');
     request q = {.kind = MAHQURITH_INITIALISE, .list = a.list};
     must(messenger_carry(&a, &q).count == BOXES, "five boxes found the rack");
@@ -139,13 +139,13 @@ static void brought_to_the_desk(void) {
 
 static void forged_bundle(void) {
     handover forged = bundle;
-    puts("6. A forged bundle. Box B5 still waits. The messenger puts box A5's older list in the place of what box A1 signed.");
-    memcpy(forged.bundle.bytes + 4, finals.replies[3].roll.bytes, MAHQURITH_BLOCK);
-    refused(box_activate(&b.boxes[4], &forged), MAHQURITH_SIGNATURE_NOT_VALID, "box A1's signature is not valid for this list");
-    puts("   The messenger leaves box A2 out and lists box A1 twice.");
+    puts("6. A forged bundle. Box B5 still waits. The messenger puts box A5's older list in the place of what box A2 signed.");
+    memcpy(forged.bundle.bytes + 4 + MAHQURITH_BLOCK + 3, finals.replies[3].roll.bytes, MAHQURITH_BLOCK); /* the second entry's roll */
+    refused(box_activate(&b.boxes[4], &forged), MAHQURITH_SIGNATURE_NOT_VALID, "box A2's signature is not valid for this list");
+    puts("   The messenger puts a cue of its own in the place of the one that box A5 missed.");
     forged = bundle;
-    memcpy(forged.bundle.bytes + 4 + MAHQURITH_BLOCK, forged.bundle.bytes + 1, 3 + MAHQURITH_BLOCK);
-    refused(box_activate(&b.boxes[4], &forged), MAHQURITH_LIST_BROKEN, "a bundle names each box once at most");
+    forged.bundle.bytes[forged.bundle.length - 1] ^= 1;
+    refused(box_activate(&b.boxes[4], &forged), MAHQURITH_NOT_DERIVED, "box A5's list and this cue do not give the newest list");
     must(box_activate(&b.boxes[4], &bundle) == MAHQURITH_ACCEPTED, "the true bundle is accepted");
     puts("   With the true bundle box B5 becomes active.");
 }
@@ -162,6 +162,9 @@ static void two_heirs(void) {
 }
 
 int main(void) {
+    puts("Boxes keep the newest hash of a ledger of cue edits, and sign it. The desk believes more than half of a rack of boxes.\n"
+         "In each question it puts a new number, the nonce, which must come back signed. The messenger between them,\n"
+         "the venue's server, keeps the texts of the cues and is trusted with nothing.");
     found_rack();
     first_half();
     interval();
