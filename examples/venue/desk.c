@@ -17,13 +17,13 @@ request desk_ask(desk *d, uint8_t kind) {
 
 /* The verdict on the first reply's statement, under which every reply's signature should stand. */
 mahqurith_finding desk_judge(const desk *d, const message *list, const pile *p) {
-    mahqurith_rack rack = mahqurith_read_rack(BYTES(*list)).rack;
+    mahqurith_rack named = mahqurith_read_rack(BYTES(*list)).rack;
     const message *statement = &p->replies[0].statement;
     uint8_t signers[2 * BOXES] = {0};
     for (size_t i = 0; i < p->count; i++) {
         const reply *r = &p->replies[i];
         signers[2 * i] = r->position;
-        signers[2 * i + 1] = r->position < rack.count ? chip_marks(rack.keys[r->position], statement, r->signature) : 0;
+        signers[2 * i + 1] = r->position < named.count ? chip_marks(named.keys[r->position], statement, r->signature) : 0;
     }
     return mahqurith_verdict(d->question, BYTES(*list), BYTES(*statement), signers, 2 * p->count);
 }
