@@ -34,13 +34,6 @@ void chip_erase(chip *c) {
     c->secret = NULL;
 }
 
-static bool is_known(const uint8_t key[MAHQURITH_KEY]) {
-    size_t i = 0;
-    while (i < knowns && memcmp(known[i], key, MAHQURITH_KEY) != 0)
-        i++;
-    return i < knowns;
-}
-
 static bool is_valid(const uint8_t key[MAHQURITH_KEY], const message *m, const uint8_t signature[SIGNATURE]) {
     EVP_PKEY *public = EVP_PKEY_new_raw_public_key(EVP_PKEY_ED25519, NULL, key, MAHQURITH_KEY);
     EVP_MD_CTX *work = EVP_MD_CTX_new();
@@ -52,5 +45,9 @@ static bool is_valid(const uint8_t key[MAHQURITH_KEY], const message *m, const u
 }
 
 uint8_t chip_marks(const uint8_t key[MAHQURITH_KEY], const message *m, const uint8_t signature[SIGNATURE]) {
-    return (uint8_t)((is_known(key) ? MAHQURITH_ATTESTED : 0) | (is_valid(key, m, signature) ? MAHQURITH_VALID : 0));
+    uint8_t marks = is_valid(key, m, signature) ? MAHQURITH_VALID : 0;
+    for (size_t i = 0; i < knowns; i++)
+        if (memcmp(known[i], key, MAHQURITH_KEY) == 0)
+            marks |= MAHQURITH_ATTESTED;
+    return marks;
 }

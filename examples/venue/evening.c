@@ -67,7 +67,7 @@ static void found_rack(void) {
     puts("The desk notes the rack's identity, for the whole tour, and has a ledger made for the cue edits.");
 }
 
-static void first_half(void) {
+static void before_the_interval(void) {
     puts("\nTHE MATINEE");
     record(&a, "Cue 1: house lights to half, 5 seconds");
     record(&a, "Cue 2: moonlight from stage left at 40 percent");
@@ -100,14 +100,6 @@ static void interval(void) {
          "The messenger brings each of them a bundle: the signatures of both racks, and the cue that box A5 missed.\n"
          "Boxes B1 to B4 have their own chips check it and find all of it good: they are active.\n"
          "Box B5 has a loose cable and waits for its bundle.");
-}
-
-static void second_half(void) {
-    puts("\nTHE EVENING, SECOND HALF");
-    record(&b, "Cue 5: sunrise, 90 seconds");
-    puts("Box B4 stops replying.");
-    b.boxes[3].silent = true;
-    tonight = open_ledger(&b);
 }
 
 static void asked_of_rack_a(void) {
@@ -166,9 +158,13 @@ int main(void) {
          "In each question it puts a new number, the nonce, which must come back signed. The messenger between them,\n"
          "the venue's server, keeps the texts of the cues and is trusted with nothing.");
     found_rack();
-    first_half();
+    before_the_interval();
     interval();
-    second_half();
+    puts("\nTHE EVENING, SECOND HALF");
+    record(&b, "Cue 5: sunrise, 90 seconds");
+    puts("Box B4 stops replying.");
+    b.boxes[3].silent = true;
+    tonight = open_ledger(&b);
     puts("\nWHAT MUST NOT WORK");
     asked_of_rack_a();
     brought_to_the_desk();
