@@ -1,5 +1,7 @@
-// Comparing strings.
+// Comparing strings, eight bytes at a time.
+use crate::number::piece_at;
 ghost use mathlib.Core.Path.{_≡_};
+ghost use lib.ListN.{length};
 ghost use Rattle.octets.specs.Strings.{all-zero, same, before};
 
 // Whether every byte is zero.
@@ -8,10 +10,10 @@ pub fn is_zero(s: &[u8]) -> bool
 {
     let mut i = 0;
     while i < s.len() {
-        if s[i] != 0 {
+        if piece_at(s, i) != 0 {
             return false;
         }
-        i += 1;
+        i += 8;
     }
     true
 }
@@ -25,18 +27,38 @@ pub fn is_same(a: &[u8], b: &[u8]) -> bool
     }
     let mut i = 0;
     while i < a.len() {
-        if a[i] != b[i] {
+        if piece_at(a, i) != piece_at(b, i) {
             return false;
         }
-        i += 1;
+        i += 8;
     }
     true
+}
+
+// Whether the first of two strings of one length comes before the second.
+fn is_lower(a: &[u8], b: &[u8]) -> bool
+    requires { ⌜ length (now a) ≡ length (now b) ⌝ }
+    ensures { λ r. ⌜ r ≡ before (now (a .entry)) (now (b .entry)) ⌝ }
+{
+    let mut i = 0;
+    while i < a.len() {
+        let x = piece_at(a, i);
+        let y = piece_at(b, i);
+        if x != y {
+            return x < y;
+        }
+        i += 8;
+    }
+    false
 }
 
 // Whether the first string comes before the second in byte order.
 pub fn is_before(a: &[u8], b: &[u8]) -> bool
     ensures { λ r. ⌜ r ≡ before (now (a .entry)) (now (b .entry)) ⌝ }
 {
+    if a.len() == b.len() {
+        return is_lower(a, b);
+    }
     let mut i = 0;
     while i < a.len() {
         if b.len() <= i {

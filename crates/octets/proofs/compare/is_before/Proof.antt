@@ -19,19 +19,25 @@ Inv-loop a b i₀ i = (i ≤ length a) × (i ≤ length b) × (before a b ≡ be
 abbrev μ-loop : tie.MeasureT-loop
 μ-loop a b i₀ i = length a - i
 
+is-lower-requires : tie.Need-is-lower-requires Inv-loop μ-loop
+is-lower-requires c κs = search needs
+
+returns : tie.Need-returns Inv-loop μ-loop
+returns c = c .is-lower .ensures
+
 loop-holds : tie.Need-loop-holds Inv-loop μ-loop
 loop-holds c = search needs
 
-returns : tie.Need-returns Inv-loop μ-loop
-returns c =
+returns-2 : tie.Need-returns-2 Inv-loop μ-loop
+returns-2 c =
     let l = c .before .before .loop in
-    sym (l .inv .2 ∙ before-over (now (c .before .before .before .args .a)) (now (c .before .before .before .args .b)) (l .i) (omega arith) (omega arith))
+    sym (l .inv .2 ∙ before-over (now (c .before .before .before .before .before .before .args .a)) (now (c .before .before .before .before .before .before .args .b)) (l .i) (omega arith) (omega arith))
 
-shared-slice-read-if2 : tie.Need-shared-slice-read-if2 Inv-loop μ-loop
-shared-slice-read-if2 c = search needs
+shared-slice-read-if3 : tie.Need-shared-slice-read-if3 Inv-loop μ-loop
+shared-slice-read-if3 c = search needs
 
-shared-slice-read-if2-2 : tie.Need-shared-slice-read-if2-2 Inv-loop μ-loop
-shared-slice-read-if2-2 c = search needs
+shared-slice-read-if3-2 : tie.Need-shared-slice-read-if3-2 Inv-loop μ-loop
+shared-slice-read-if3-2 c = search needs
 
 shared-slice-read-result : tie.Need-shared-slice-read-result Inv-loop μ-loop
 shared-slice-read-result c = search needs
@@ -39,13 +45,13 @@ shared-slice-read-result c = search needs
 shared-slice-read-result-2 : tie.Need-shared-slice-read-result-2 Inv-loop μ-loop
 shared-slice-read-result-2 c = search needs
 
-returns-2 : tie.Need-returns-2 Inv-loop μ-loop
-returns-2 c =
-    let a = now (c .before .before .before .before .before .before .before .before .args .a) in
-    let b = now (c .before .before .before .before .before .before .before .before .args .b) in
+returns-3 : tie.Need-returns-3 Inv-loop μ-loop
+returns-3 c =
+    let a = now (c .before .before .before .before .before .before .before .before .before .before .before .args .a) in
+    let b = now (c .before .before .before .before .before .before .before .before .before .before .before .args .b) in
     let l = c .before .before .before .before .before .before .before .loop in
     let step = l .inv .2 ∙ before-step a b (l .i) (omega arith) (omega arith) in
-    sym (step ∙ ap (λ (p : Bool). cond p (before (drop (l .i + 1) a) (drop (l .i + 1) b)) (ltb (getD a (l .i) 0) (getD b (l .i) 0))) (ne-eqb _ _ (c .before .before .if2 .taken)))
+    sym (step ∙ ap (λ (p : Bool). cond p (before (drop (l .i + 1) a) (drop (l .i + 1) b)) (ltb (getD a (l .i) 0) (getD b (l .i) 0))) (ne-eqb _ _ (c .before .before .if3 .taken)))
 
 add-i : tie.Need-add-i Inv-loop μ-loop
 add-i c = search needs
@@ -55,16 +61,16 @@ loop-less c = search needs
 
 loop-again : tie.Need-loop-again Inv-loop μ-loop
 loop-again c =
-    let a = now (c .before .before .before .before .before .before .args .a) in
-    let b = now (c .before .before .before .before .before .before .args .b) in
+    let a = now (c .before .before .before .before .before .before .before .before .before .args .a) in
+    let b = now (c .before .before .before .before .before .before .before .before .before .args .b) in
     let l = c .before .before .before .before .before .loop in
     let step = l .inv .2 ∙ before-step a b (l .i) (omega arith) (omega arith) in
-    (omega arith, omega arith, step ∙ ap (λ (p : Bool). cond p (before (drop (l .i + 1) a) (drop (l .i + 1) b)) (ltb (getD a (l .i) 0) (getD b (l .i) 0))) (eq-eqb _ _ (c .if2 .left)))
+    (omega arith, omega arith, step ∙ ap (λ (p : Bool). cond p (before (drop (l .i + 1) a) (drop (l .i + 1) b)) (ltb (getD a (l .i) 0) (getD b (l .i) 0))) (eq-eqb _ _ (c .if3 .left)))
 
-returns-3 : tie.Need-returns-3 Inv-loop μ-loop
-returns-3 c =
+returns-4 : tie.Need-returns-4 Inv-loop μ-loop
+returns-4 c =
     let l = c .before .loop in
-    sym (l .inv .2 ∙ before-at-end (now (c .before .before .args .a)) (now (c .before .before .args .b)) (l .i) (omega arith))
+    sym (l .inv .2 ∙ before-at-end (now (c .before .before .before .before .before .args .a)) (now (c .before .before .before .before .before .args .b)) (l .i) (omega arith))
 
 pub is-before-spec : {M : Type 1} → statement M
 is-before-spec =
@@ -72,14 +78,16 @@ is-before-spec =
     (tie.spec
     Inv-loop
     μ-loop
-    loop-holds
+    is-lower-requires
     returns
-    shared-slice-read-if2
-    shared-slice-read-if2-2
+    loop-holds
+    returns-2
+    shared-slice-read-if3
+    shared-slice-read-if3-2
     shared-slice-read-result
     shared-slice-read-result-2
-    returns-2
+    returns-3
     add-i
     loop-less
     loop-again
-    returns-3)
+    returns-4)

@@ -1,19 +1,20 @@
 -- `octets::compare::is_zero` meets its contract. Assumes nothing.
 use mathlib.Core.Bool.{Bool, _&&_}
 use mathlib.Core.Path.{_≡_, sym, ap, _∙_}
-use Prim.Native.Nat.{_+_, _≤_, _-_}
+use Prim.Native.Nat.{_+_, _-_}
 use native.Mathlib.Omega.{arith}
 use denote.Ref.{now}
 use borrow.Author.Tests.{eq-eqb, ne-eqb}
 use borrow.Author.Needs.{needs}
 use lib.ListN.{length, drop}
-use Rattle.octets.proofs.Compared.{zero-step, zero-end}
+use Rattle.octets.proofs.Compared.{zero-end}
+use Rattle.octets.proofs.Digits.{zero-step}
 use Rattle.octets.specs.Strings.{all-zero}
 use Rattle.octets.proofs.compare.is_zero.Statement.{statement}
 use Rattle.octets.proofs.compare.is_zero.Tie as tie
 
 abbrev Inv-loop : tie.InvT-loop
-Inv-loop s i₀ i = (i ≤ length s) × (all-zero s ≡ all-zero (drop i s))
+Inv-loop s i₀ i = all-zero s ≡ all-zero (drop i s)
 
 abbrev μ-loop : tie.MeasureT-loop
 μ-loop s i₀ i = length s - i
@@ -21,14 +22,16 @@ abbrev μ-loop : tie.MeasureT-loop
 loop-holds : tie.Need-loop-holds Inv-loop μ-loop
 loop-holds c = search needs
 
-shared-slice-read-if1 : tie.Need-shared-slice-read-if1 Inv-loop μ-loop
-shared-slice-read-if1 c = search needs
+piece-at-requires : tie.Need-piece-at-requires Inv-loop μ-loop
+piece-at-requires c κs = search needs
 
 returns : tie.Need-returns Inv-loop μ-loop
 returns c =
-    let s = now (c .before .before .before .before .args .s) in
+    let s = now (c .before .before .before .before .before .args .s) in
+    let known = c .before .before .before .before .shared-slice-known .given in
     let l = c .before .before .before .loop in
-    sym (l .inv .1 ∙ zero-step s (l .i) (omega arith) ∙ ap (λ (p : Bool). p && all-zero (drop (l .i + 1) s)) (ne-eqb _ _ (c .if1 .taken)))
+    let step = l .inv ∙ zero-step s (l .i) _ (λ j. omega (arith, known j)) (c .before .piece-at .ensures) in
+    sym (step ∙ ap (λ (p : Bool). p && all-zero (drop (l .i + 8) s)) (ne-eqb _ _ (c .if1 .taken)))
 
 add-i : tie.Need-add-i Inv-loop μ-loop
 add-i c = search needs
@@ -38,14 +41,14 @@ loop-less c = search needs
 
 loop-again : tie.Need-loop-again Inv-loop μ-loop
 loop-again c =
-    let s = now (c .before .before .before .before .args .s) in
+    let s = now (c .before .before .before .before .before .args .s) in
+    let known = c .before .before .before .before .shared-slice-known .given in
     let l = c .before .before .before .loop in
-    (omega arith, l .inv .1 ∙ zero-step s (l .i) (omega arith) ∙ ap (λ (p : Bool). p && all-zero (drop (l .i + 1) s)) (eq-eqb _ _ (c .if1 .left)))
+    let step = l .inv ∙ zero-step s (l .i) _ (λ j. omega (arith, known j)) (c .before .piece-at .ensures) in
+    step ∙ ap (λ (p : Bool). p && all-zero (drop (l .i + 8) s)) (eq-eqb _ _ (c .if1 .left))
 
 returns-2 : tie.Need-returns-2 Inv-loop μ-loop
-returns-2 c =
-    let l = c .before .loop in
-    sym (l .inv .1 ∙ zero-end (now (c .before .before .args .s)) (l .i) (omega arith))
+returns-2 c = sym (c .before .loop .inv ∙ zero-end (now (c .before .before .before .args .s)) (c .before .loop .i) (omega arith))
 
 pub is-zero-spec : {M : Type 1} → statement M
 is-zero-spec =
@@ -54,7 +57,7 @@ is-zero-spec =
     Inv-loop
     μ-loop
     loop-holds
-    shared-slice-read-if1
+    piece-at-requires
     returns
     add-i
     loop-less
