@@ -11,11 +11,21 @@ use lib.Dec.{eqb, ltb}
 use Rattle.octets.specs.Strings.{all-zero, same, before}
 use Rattle.octets.proofs.Parts.{drop-next}
 
+pub zero-step : (s : List ℕ) (i : ℕ) → i < length s → all-zero (drop i s) ≡ (eqb (getD s i 0) 0 && all-zero (drop (i + 1) s))
+unfolding all-zero
+zero-step s i h = ap all-zero (drop-next s i h)
+
 pub zero-end : (s : List ℕ) (i : ℕ) → length s ≤ i → all-zero (drop i s) ≡ true
 unfolding all-zero
 zero-end s i h = ap all-zero (drop-of-length-le s h)
 
 module _ (a b : List ℕ) (i : ℕ) where
+  pub same-step :
+      i < length a → i < length b
+      → same (drop i a) (drop i b) ≡ (eqb (getD a i 0) (getD b i 0) && same (drop (i + 1) a) (drop (i + 1) b))
+  unfolding same
+  same-step h k = ap₂ same (drop-next a i h) (drop-next b i k)
+
   pub same-end : length a ≤ i → length b ≤ i → same (drop i a) (drop i b) ≡ true
   unfolding same
   same-end h k = ap₂ same (drop-of-length-le a h) (drop-of-length-le b k)

@@ -8,14 +8,15 @@ ghost use Rattle.octets.specs.Strings.{all-zero, same, before};
 pub fn is_zero(s: &[u8]) -> bool
     ensures { λ r. ⌜ r ≡ all-zero (now (s .entry)) ⌝ }
 {
+    let mut all = true;
     let mut i = 0;
     while i < s.len() {
-        if piece_at(s, i) != 0 {
-            return false;
+        if s[i] != 0 {
+            all = false;
         }
-        i += 8;
+        i += 1;
     }
-    true
+    all
 }
 
 // Whether two strings are the same.
@@ -25,14 +26,15 @@ pub fn is_same(a: &[u8], b: &[u8]) -> bool
     if a.len() != b.len() {
         return false;
     }
+    let mut all = true;
     let mut i = 0;
     while i < a.len() {
-        if piece_at(a, i) != piece_at(b, i) {
-            return false;
+        if a[i] != b[i] {
+            all = false;
         }
-        i += 8;
+        i += 1;
     }
-    true
+    all
 }
 
 // Whether the first of two strings of one length comes before the second.

@@ -1,37 +1,29 @@
 -- `octets::compare::is_zero` meets its contract. Assumes nothing.
-use mathlib.Core.Bool.{Bool, _&&_}
-use mathlib.Core.Path.{_≡_, sym, ap, _∙_}
-use Prim.Native.Nat.{_+_, _-_}
+use mathlib.Core.Bool.{Bool, true, false, _&&_, and-false, and-true}
+use mathlib.Core.Logic.{⊎-elim}
+use mathlib.Core.Path.{_≡_, refl, sym, ap, _∙_}
+use Prim.Native.Nat.{ℕ, _+_, _-_, _≤_}
 use native.Mathlib.Omega.{arith}
 use denote.Ref.{now}
 use borrow.Author.Tests.{eq-eqb, ne-eqb}
 use borrow.Author.Needs.{needs}
 use lib.ListN.{length, drop}
-use Rattle.octets.proofs.Compared.{zero-end}
-use Rattle.octets.proofs.Digits.{zero-step}
+use Rattle.octets.proofs.Compared.{zero-step, zero-end}
 use Rattle.octets.specs.Strings.{all-zero}
 use Rattle.octets.proofs.compare.is_zero.Statement.{statement}
 use Rattle.octets.proofs.compare.is_zero.Tie as tie
 
 abbrev Inv-loop : tie.InvT-loop
-Inv-loop s i₀ i = all-zero s ≡ all-zero (drop i s)
+Inv-loop s all₀ i₀ all i = all-zero s ≡ (all && all-zero (drop i s))
 
 abbrev μ-loop : tie.MeasureT-loop
-μ-loop s i₀ i = length s - i
+μ-loop s all₀ i₀ all i = length s - i
 
 loop-holds : tie.Need-loop-holds Inv-loop μ-loop
 loop-holds c = search needs
 
-piece-at-requires : tie.Need-piece-at-requires Inv-loop μ-loop
-piece-at-requires c κs = search needs
-
-returns : tie.Need-returns Inv-loop μ-loop
-returns c =
-    let s = now (c .before .before .before .before .before .args .s) in
-    let known = c .before .before .before .before .shared-slice-known .given in
-    let l = c .before .before .before .loop in
-    let step = l .inv ∙ zero-step s (l .i) _ (λ j. omega (arith, known j)) (c .before .piece-at .ensures) in
-    sym (step ∙ ap (λ (p : Bool). p && all-zero (drop (l .i + 8) s)) (ne-eqb _ _ (c .if1 .taken)))
+shared-slice-read-if1 : tie.Need-shared-slice-read-if1 Inv-loop μ-loop
+shared-slice-read-if1 c = search needs
 
 add-i : tie.Need-add-i Inv-loop μ-loop
 add-i c = search needs
@@ -41,25 +33,21 @@ loop-less c = search needs
 
 loop-again : tie.Need-loop-again Inv-loop μ-loop
 loop-again c =
-    let s = now (c .before .before .before .before .before .args .s) in
-    let known = c .before .before .before .before .shared-slice-known .given in
+    let s = now (c .before .before .before .before .args .s) in
     let l = c .before .before .before .loop in
-    let step = l .inv ∙ zero-step s (l .i) _ (λ j. omega (arith, known j)) (c .before .piece-at .ensures) in
-    step ∙ ap (λ (p : Bool). p && all-zero (drop (l .i + 8) s)) (eq-eqb _ _ (c .if1 .left))
+    let rest = all-zero (drop (l .i + 1) s) in
+    let step = l .inv ∙ ap (λ (p : Bool). l .all && p) (zero-step s (l .i) (omega arith)) in
+    ⊎-elim
+    (λ w. step ∙ ap (λ (p : Bool). l .all && (p && rest)) (ne-eqb _ _ (w .0 .taken)) ∙ and-false (l .all) ∙ sym (ap (λ (p : Bool). p && rest) (w .1)))
+    (λ w. step ∙ ap (λ (p : Bool). l .all && (p && rest)) (eq-eqb _ _ (w .0 .left)) ∙ sym (ap (λ (p : Bool). p && rest) (w .1)))
+    (c .if1 .came)
 
-returns-2 : tie.Need-returns-2 Inv-loop μ-loop
-returns-2 c = sym (c .before .loop .inv ∙ zero-end (now (c .before .before .before .args .s)) (c .before .loop .i) (omega arith))
+returns : tie.Need-returns Inv-loop μ-loop
+returns c =
+    let l = c .before .loop in
+    sym (l .inv ∙ ap (λ (p : Bool). l .all && p) (zero-end (now (c .before .before .args .s)) (l .i) (omega arith)) ∙ and-true (l .all))
 
 pub is-zero-spec : {M : Type 1} → statement M
 is-zero-spec =
     tie.close
-    (tie.spec
-    Inv-loop
-    μ-loop
-    loop-holds
-    piece-at-requires
-    returns
-    add-i
-    loop-less
-    loop-again
-    returns-2)
+    (tie.spec Inv-loop μ-loop loop-holds shared-slice-read-if1 add-i loop-less loop-again returns)
