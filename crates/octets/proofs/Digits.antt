@@ -1,9 +1,9 @@
--- Strings of one length compared a piece at a time: the numbers of their fronts decide. Assumes nothing.
+-- Strings ordered by the numbers of their fronts. Assumes nothing.
 use mathlib.Core.Path.{_≡_, refl, sym, ap, ap₂, _∙_}
-use mathlib.Core.Bool.{Bool, true, false, cond, _&&_, and-assoc}
+use mathlib.Core.Bool.{Bool, true, false, cond, _&&_}
 use mathlib.Core.List.{List, [], _∷_, _++_}
-use Prim.Native.Nat.{ℕ, zero, suc, _+_, _*_, _^_, _<_}
-use native.Mathlib.Nat.{zero-add, suc-add, zero-mul}
+use Prim.Native.Nat.{ℕ, zero, suc, _+_, _*_, _^_, _≤_, _<_}
+use native.Mathlib.Nat.{zero-add, suc-add}
 use native.Mathlib.Decide.{decLt}
 use native.Mathlib.Omega.{arith}
 use borrow.Author.Tests.{lt-ltb, le-ltb, eq-eqb, ne-eqb}
@@ -12,9 +12,8 @@ use lib.Seq.{drop-drop}
 use lib.Arith.{digits-lt}
 use lib.Dec.{eqb, ltb, eqb·suc-suc, leb·suc-suc}
 use Rattle.octets.specs.Numbers.{number-of}
-use Rattle.octets.specs.Strings.{all-zero, same, before}
+use Rattle.octets.specs.Strings.{same, before}
 use Rattle.octets.proofs.Exact.{Octets, octets-take, octets-drop, number-below}
-use Rattle.octets.proofs.Zeros.{zero-append}
 
 sums : (m u v : ℕ) → (eqb (m + u) (m + v) ≡ eqb u v) × (ltb (m + u) (m + v) ≡ ltb u v)
 sums zero u v = rw (zero-add u, zero-add v) (refl, refl)
@@ -52,17 +51,6 @@ fronts x y u v ou ov e =
     let below : number-of v < 256 ^ length u = rw (sym e) at (number-below v ov) in
     rw (number-cons x u, number-cons y v, sym e) (digits (256 ^ length u) x y (number-of u) (number-of v) (number-below u ou) below)
 
-same-front : (u v a b : List ℕ) → Octets u → Octets v → length u ≡ length v → same (u ++ a) (v ++ b) ≡ (eqb (number-of u) (number-of v) && same a b)
-unfolding same number-of
-same-front [] [] a b ou ov e = refl
-same-front [] (y ∷ v) a b ou ov e = absurd (omega arith)
-same-front (x ∷ u) [] a b ou ov e = absurd (omega arith)
-same-front (x ∷ u) (y ∷ v) a b ou ov e =
-    let f = fronts x y u v (λ i. ou (suc i)) (λ i. ov (suc i)) (omega arith) in
-    ap (λ (p : Bool). eqb x y && p) (same-front u v a b (λ i. ou (suc i)) (λ i. ov (suc i)) (omega arith))
-    ∙ sym (and-assoc (eqb x y) (eqb (number-of u) (number-of v)) (same a b))
-    ∙ ap (λ (p : Bool). p && same a b) (sym (f .0))
-
 before-front :
     (u v a b : List ℕ) → Octets u → Octets v → length u ≡ length v
     → before (u ++ a) (v ++ b) ≡ cond (eqb (number-of u) (number-of v)) (before a b) (ltb (number-of u) (number-of v))
@@ -80,42 +68,20 @@ before-front (x ∷ u) (y ∷ v) a b ou ov e =
     both true q r s t = refl
     both false q r s t = refl
 
-zero-number : (u : List ℕ) → Octets u → all-zero u ≡ eqb (number-of u) 0
-unfolding all-zero number-of
-zero-number [] o = refl
-zero-number (x ∷ u) o =
-    let below : number-of u < 256 ^ length u = number-below u (λ i. o (suc i)) in
-    let z : 0 * 256 ^ length u + 0 ≡ 0 = simp zero-mul in
-    ap (λ (p : Bool). eqb x 0 && p) (zero-number u (λ i. o (suc i)))
-    ∙ sym (rw z at (digits (256 ^ length u) x 0 (number-of u) 0 below (omega arith) .0))
+-- eight bytes from i on decide, or what is left behind them
+pub before-eight :
+    (a b : List ℕ) (i : ℕ) → Octets a → Octets b → i + 8 ≤ length a → i + 8 ≤ length b
+    → before (drop i a) (drop i b)
+    ≡ cond (eqb (number-of (take 8 (drop i a))) (number-of (take 8 (drop i b)))) (before (drop (i + 8) a) (drop (i + 8) b)) (ltb (number-of (take 8 (drop i a))) (number-of (take 8 (drop i b))))
+before-eight a b i oa ob ha hb =
+    ap₂ before (cut a) (cut b)
+    ∙ before-front (eight a) (eight b) (drop (i + 8) a) (drop (i + 8) b) (octets a oa) (octets b ob) (simp (length-take, length-drop) (omega arith))
+  where
+    eight : List ℕ → List ℕ
+    eight s = take 8 (drop i s)
 
--- what is left from i on begins with eight bytes, or ends before
-cut : (i : ℕ) (s : List ℕ) → drop i s ≡ take 8 (drop i s) ++ drop (i + 8) s
-cut i s = sym (take-append-drop 8 (drop i s)) ∙ ap (λ (l : List ℕ). take 8 (drop i s) ++ l) (drop-drop 8 i s)
+    cut : (s : List ℕ) → drop i s ≡ eight s ++ drop (i + 8) s
+    cut s = sym (take-append-drop 8 (drop i s)) ∙ ap (λ (l : List ℕ). eight s ++ l) (drop-drop 8 i s)
 
-octets-cut : (i : ℕ) (s : List ℕ) → Octets s → Octets (take 8 (drop i s))
-octets-cut i s o = octets-take 8 (drop i s) (octets-drop i s o)
-
-pub zero-step : (s : List ℕ) (i x : ℕ) → Octets s → x ≡ number-of (take 8 (drop i s)) → all-zero (drop i s) ≡ (eqb x 0 && all-zero (drop (i + 8) s))
-zero-step s i x o e =
-    ap all-zero (cut i s)
-    ∙ zero-append (take 8 (drop i s)) (drop (i + 8) s)
-    ∙ ap (λ (p : Bool). p && all-zero (drop (i + 8) s)) (zero-number (take 8 (drop i s)) (octets-cut i s o) ∙ ap (λ (n : ℕ). eqb n 0) (sym e))
-
-module _
-    (a b : List ℕ) (i x y : ℕ) (oa : Octets a) (ob : Octets b) (e : length a ≡ length b)
-    (ex : x ≡ number-of (take 8 (drop i a))) (ey : y ≡ number-of (take 8 (drop i b))) where
-  lengths : length (take 8 (drop i a)) ≡ length (take 8 (drop i b))
-  lengths = simp (length-take, length-drop) (omega arith)
-
-  pub same-step : same (drop i a) (drop i b) ≡ (eqb x y && same (drop (i + 8) a) (drop (i + 8) b))
-  same-step =
-      rw (ex, ey)
-      (ap₂ same (cut i a) (cut i b)
-      ∙ same-front (take 8 (drop i a)) (take 8 (drop i b)) (drop (i + 8) a) (drop (i + 8) b) (octets-cut i a oa) (octets-cut i b ob) lengths)
-
-  pub lower-step : before (drop i a) (drop i b) ≡ cond (eqb x y) (before (drop (i + 8) a) (drop (i + 8) b)) (ltb x y)
-  lower-step =
-      rw (ex, ey)
-      (ap₂ before (cut i a) (cut i b)
-      ∙ before-front (take 8 (drop i a)) (take 8 (drop i b)) (drop (i + 8) a) (drop (i + 8) b) (octets-cut i a oa) (octets-cut i b ob) lengths)
+    octets : (s : List ℕ) → Octets s → Octets (eight s)
+    octets s o = octets-take 8 (drop i s) (octets-drop i s o)

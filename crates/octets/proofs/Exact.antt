@@ -1,16 +1,16 @@
 -- Numbers and their bytes, one from the other and back without loss. Assumes nothing.
 use mathlib.Core.Path.{_≡_, refl, sym, ap, ap₂, _∙_}
-use Prim.Native.Nat.{ℕ, zero, suc, _+_, _/_, _%_, _*_, _^_, _-_, _≤_, _<_}
+use Prim.Native.Nat.{ℕ, zero, suc, _+_, _/_, _%_, _*_, _^_, _<_}
 use native.Mathlib.Nat.{mul-assoc, mod-one, mod-eq-of-lt, mul-add-div-right, mul-add-mod-self-right, pow-succ', pow-le-pow-right, lt-of-lt-of-le}
 use native.Mathlib.Decide.{decLt}
 use native.Mathlib.Omega.{arith}
-use mathlib.Core.List.{List, [], _∷_, _++_}
-use lib.ListN.{length, getD, take, drop, length-take, length-drop, List·getD-eq-default}
-use lib.Seq.{getD-take, getD-drop, take-suc}
+use mathlib.Core.List.{List, [], _∷_}
+use lib.ListN.{length, getD, take, drop, length-take, List·getD-eq-default}
+use lib.Seq.{getD-take, getD-drop}
 use lib.Arith.{mod-mul, digits-div, digits-lt}
 use lib.Dec.{lit<}
 use Rattle.octets.specs.Numbers.{number-of, bytes-of}
-use Rattle.octets.proofs.Numbers.{bytes-length, number-append}
+use Rattle.octets.proofs.Numbers.{bytes-length}
 
 -- a string of bytes: every element is below 256, as a slice of bytes has it
 abbrev pub Octets : List ℕ → Type 0
@@ -64,31 +64,3 @@ bytes-number (b ∷ s) o =
     let head : (b * 256 ^ length s + number-of s) / 256 ^ length s % 256 ≡ b =
     ap (λ (p : ℕ). p % 256) (digits-div b (number-below s rest)) ∙ mod-eq-of-lt (o 0) in
     ap₂ (λ (x : ℕ) (l : List ℕ). x ∷ l) head (bytes-above (length s) b (number-of s) ∙ bytes-number s rest)
-
-pub number-none : 0 ≡ number-of []
-unfolding number-of
-number-none = refl
-
-number-one : (b : ℕ) → number-of (b ∷ []) ≡ b
-unfolding number-of
-number-one b = omega arith
-
--- a part of a string from a place on, read byte by byte
-module _ (s : List ℕ) (at i : ℕ) where
-  -- it has below eight bytes, so one more goes into a number of eight
-  pub piece-below : Octets s → i < at + 8 → number-of (take (i - at) (drop at s)) < 256 ^ 7
-  piece-below o h =
-      lt-of-lt-of-le
-      (number-below (take (i - at) (drop at s)) (octets-take (i - at) (drop at s) (octets-drop at s o)))
-      (pow-le-pow-right {n = 256} (lit< tt) {i = length (take (i - at) (drop at s))} {j = 7} (omega (arith, length-take (i - at) (drop at s))))
-
-  pub number-next :
-      at ≤ i → i < length s
-      → number-of (take (i + 1 - at) (drop at s)) ≡ number-of (take (i - at) (drop at s)) * 256 + getD s i 0
-  number-next h k =
-      let next : i + 1 - at ≡ suc (i - at) = omega arith in
-      let place : at + (i - at) ≡ i = omega arith in
-      let one : take (suc (i - at)) (drop at s) ≡ take (i - at) (drop at s) ++ (getD s i 0 ∷ []) =
-      take-suc (drop at s) (i - at) 0 (omega (arith, length-drop at s))
-      ∙ ap (λ (b : ℕ). take (i - at) (drop at s) ++ (b ∷ [])) (getD-drop at s (i - at) 0 ∙ ap (λ (j : ℕ). getD s j 0) place) in
-      rw (next, one) (number-append (take (i - at) (drop at s)) (getD s i 0 ∷ []) ∙ ap (λ (b : ℕ). number-of (take (i - at) (drop at s)) * 256 + b) (number-one (getD s i 0)))

@@ -1,7 +1,11 @@
-// Comparing strings, eight bytes at a time.
-use crate::number::piece_at;
+// Comparing strings. The loops that tell zero and sameness have no way out early, so that a compiler takes many bytes at a time.
+use crate::number::number_at;
 ghost use mathlib.Core.Path.{_≡_};
-ghost use lib.ListN.{length};
+ghost use mathlib.Core.Bool.{cond};
+ghost use Prim.Native.Nat.{_-_, _≤_};
+ghost use lib.Dec.{leb, ltb};
+ghost use lib.ListN.{length, take, drop};
+ghost use Rattle.octets.specs.Numbers.{number-of};
 ghost use Rattle.octets.specs.Strings.{all-zero, same, before};
 
 // Whether every byte is zero.
@@ -37,31 +41,40 @@ pub fn is_same(a: &[u8], b: &[u8]) -> bool
     all
 }
 
-// Whether the first of two strings of one length comes before the second.
-fn is_lower(a: &[u8], b: &[u8]) -> bool
-    requires { ⌜ length (now a) ≡ length (now b) ⌝ }
-    ensures { λ r. ⌜ r ≡ before (now (a .entry)) (now (b .entry)) ⌝ }
+fn smaller(m: usize, n: usize) -> usize
+    ensures { λ r. ⌜ (r ≤ m) × (r ≤ n) ⌝ }
+{
+    if m < n {
+        return m;
+    }
+    n
+}
+
+// How many of the first n bytes are the same, in steps of eight. Where eight more are left among them, they decide the order.
+fn agreed(a: &[u8], b: &[u8], n: usize) -> usize
+    requires { ⌜ (n ≤ length (now a)) × (n ≤ length (now b)) ⌝ }
+    ensures within { λ r. ⌜ r ≤ n ⌝ }
+    ensures order { λ r. ⌜ before (now (a .entry)) (now (b .entry)) ≡ cond (leb 8 (n - r)) (ltb (number-of (take 8 (drop r (now (a .entry))))) (number-of (take 8 (drop r (now (b .entry)))))) (before (drop r (now (a .entry))) (drop r (now (b .entry)))) ⌝ }
 {
     let mut i = 0;
-    while i < a.len() {
-        let x = piece_at(a, i);
-        let y = piece_at(b, i);
-        if x != y {
-            return x < y;
+    while 8 <= n - i {
+        if number_at(a, i) != number_at(b, i) {
+            return i;
         }
         i += 8;
     }
-    false
+    i
 }
 
 // Whether the first string comes before the second in byte order.
 pub fn is_before(a: &[u8], b: &[u8]) -> bool
     ensures { λ r. ⌜ r ≡ before (now (a .entry)) (now (b .entry)) ⌝ }
 {
-    if a.len() == b.len() {
-        return is_lower(a, b);
+    let n = smaller(a.len(), b.len());
+    let mut i = agreed(a, b, n);
+    if 8 <= n - i {
+        return number_at(a, i) < number_at(b, i);
     }
-    let mut i = 0;
     while i < a.len() {
         if b.len() <= i {
             return false;

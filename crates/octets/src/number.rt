@@ -41,23 +41,6 @@ pub fn number_at(s: &[u8], at: usize) -> u64
     high as u64 * 4294967296 + low as u64
 }
 
-// The number of the eight bytes from a place on, or of those that are left.
-pub fn piece_at(s: &[u8], at: usize) -> u64
-    requires { ⌜ at ≤ length (now s) ⌝ }
-    ensures { λ r. ⌜ r ≡ number-of (take 8 (drop at (now (s .entry)))) ⌝ }
-{
-    if 8 <= s.len() - at {
-        return number_at(s, at);
-    }
-    let mut x = 0;
-    let mut i = at;
-    while i < s.len() {
-        x = x * 256 + s[i] as u64;
-        i += 1;
-    }
-    x
-}
-
 // Puts a number's eight bytes from a place on.
 pub fn put_number(s: &mut [u8], at: usize, x: u64)
     requires { ⌜ at + 8 ≤ length (now s) ⌝ }

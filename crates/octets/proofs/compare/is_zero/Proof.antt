@@ -1,8 +1,8 @@
 -- `octets::compare::is_zero` meets its contract. Assumes nothing.
-use mathlib.Core.Bool.{Bool, true, false, _&&_, and-false, and-true}
+use mathlib.Core.Bool.{Bool, _&&_, and-false, and-true}
 use mathlib.Core.Logic.{⊎-elim}
-use mathlib.Core.Path.{_≡_, refl, sym, ap, _∙_}
-use Prim.Native.Nat.{ℕ, _+_, _-_, _≤_}
+use mathlib.Core.Path.{_≡_, sym, ap, _∙_}
+use Prim.Native.Nat.{_+_, _-_}
 use native.Mathlib.Omega.{arith}
 use denote.Ref.{now}
 use borrow.Author.Tests.{eq-eqb, ne-eqb}
