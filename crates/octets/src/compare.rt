@@ -1,9 +1,8 @@
 // Comparing strings. The loops that tell zero and sameness have no way out early, so that a compiler takes many bytes at a time.
 use crate::number::number_at;
 ghost use mathlib.Core.Path.{_≡_};
-ghost use mathlib.Core.Bool.{cond};
-ghost use Prim.Native.Nat.{_-_, _≤_};
-ghost use lib.Dec.{leb, ltb};
+ghost use Prim.Native.Nat.{_-_, _≤_, _<_};
+ghost use lib.Dec.{ltb};
 ghost use lib.ListN.{length, take, drop};
 ghost use Rattle.octets.specs.Numbers.{number-of};
 ghost use Rattle.octets.specs.Strings.{all-zero, same, before};
@@ -50,11 +49,12 @@ fn smaller(m: usize, n: usize) -> usize
     n
 }
 
-// How many of the first n bytes are the same, in steps of eight. Where eight more are left among them, they decide the order.
+// How many of the first n bytes are the same, in steps of eight. If eight more are left, they decide the order.
 fn agreed(a: &[u8], b: &[u8], n: usize) -> usize
     requires { ⌜ (n ≤ length (now a)) × (n ≤ length (now b)) ⌝ }
     ensures within { λ r. ⌜ r ≤ n ⌝ }
-    ensures order { λ r. ⌜ before (now (a .entry)) (now (b .entry)) ≡ cond (leb 8 (n - r)) (ltb (number-of (take 8 (drop r (now (a .entry))))) (number-of (take 8 (drop r (now (b .entry)))))) (before (drop r (now (a .entry))) (drop r (now (b .entry)))) ⌝ }
+    ensures decided { λ r. ⌜ (8 ≤ n - r → before (now (a .entry)) (now (b .entry)) ≡ ltb (number-of (take 8 (drop r (now (a .entry))))) (number-of (take 8 (drop r (now (b .entry)))))) ⌝ }
+    ensures left { λ r. ⌜ (n - r < 8 → before (now (a .entry)) (now (b .entry)) ≡ before (drop r (now (a .entry))) (drop r (now (b .entry)))) ⌝ }
 {
     let mut i = 0;
     while 8 <= n - i {

@@ -4,7 +4,7 @@ use mathlib.Core.Path.{_≡_, sym, ap, _∙_}
 use Prim.Native.Nat.{_+_, _-_, _≤_}
 use native.Mathlib.Omega.{arith}
 use denote.Ref.{now}
-use borrow.Author.Tests.{eq-eqb, ne-eqb, le-leb, lt-leb}
+use borrow.Author.Tests.{eq-eqb, ne-eqb}
 use borrow.Author.Needs.{needs}
 use lib.Dec.{ltb}
 use lib.ListN.{length, take, drop}
@@ -46,8 +46,7 @@ returns c =
     let step = l .inv .3 ∙ before-eight a b (l .i) (λ j. omega (arith, known-a j)) (λ j. omega (arith, known-b j)) (omega arith) (omega arith) in
     let ex = c .before .before .number-at .ensures in
     let ey = c .before .number-at2 .ensures in
-    let whole = before (drop (l .i) a) (drop (l .i) b) in
-    (l .inv .0, step ∙ ap (λ (p : Bool). cond p rest (ltb x y)) (ne-eqb x y (λ e. c .if1 .taken (ex ∙ e ∙ sym ey))) ∙ sym (ap (λ (p : Bool). cond p (ltb x y) whole) (le-leb 8 (s .n - l .i) (omega arith))))
+    (l .inv .0, (λ h. step ∙ ap (λ (p : Bool). cond p rest (ltb x y)) (ne-eqb x y (λ e. c .if1 .taken (ex ∙ e ∙ sym ey))), λ h. absurd (omega arith)))
 
 add-i : tie.Need-add-i Inv-loop μ-loop
 add-i c = search needs
@@ -72,14 +71,7 @@ loop-again c =
     (omega arith, l .inv .1, l .inv .2, step ∙ ap (λ (p : Bool). cond p rest (ltb x y)) (eq-eqb x y (sym ex ∙ c .if1 .left ∙ ey)))
 
 returns-2 : tie.Need-returns-2 Inv-loop μ-loop
-returns-2 c =
-    let s = c .before .before .before .before .args in
-    let a = now (s .a) in
-    let b = now (s .b) in
-    let l = c .before .loop in
-    let x = number-of (take 8 (drop (l .i) a)) in
-    let y = number-of (take 8 (drop (l .i) b)) in
-    (l .inv .0, l .inv .3 ∙ sym (ap (λ (p : Bool). cond p (ltb x y) (before (drop (l .i) a) (drop (l .i) b))) (lt-leb 8 (s .n - l .i) (omega arith))))
+returns-2 c = (c .before .loop .inv .0, (λ h. absurd (omega arith), λ h. c .before .loop .inv .3))
 
 pub agreed-spec : {M : Type 1} → statement M
 agreed-spec =

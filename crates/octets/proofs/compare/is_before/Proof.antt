@@ -4,12 +4,11 @@ use mathlib.Core.Path.{_≡_, sym, ap, ap₂, _∙_}
 use Prim.Native.Nat.{_+_, _≤_, _-_}
 use native.Mathlib.Omega.{arith}
 use denote.Ref.{now}
-use borrow.Author.Tests.{eq-eqb, ne-eqb, le-leb, lt-leb}
+use borrow.Author.Tests.{eq-eqb, ne-eqb}
 use borrow.Author.Needs.{needs}
 use lib.Dec.{ltb}
-use lib.ListN.{getD, length, take, drop}
+use lib.ListN.{getD, length, drop}
 use Rattle.octets.proofs.Compared.{before-step, before-over, before-at-end}
-use Rattle.octets.specs.Numbers.{number-of}
 use Rattle.octets.specs.Strings.{before}
 use Rattle.octets.proofs.compare.is_before.Statement.{statement}
 use Rattle.octets.proofs.compare.is_before.Tie as tie
@@ -36,35 +35,16 @@ number-at-requires-2 : tie.Need-number-at-requires-2 Inv-loop μ-loop
 number-at-requires-2 c κs = search needs
 
 returns : tie.Need-returns Inv-loop μ-loop
-returns c =
-    let s = c .before .before .before .before .before .before .before .args in
-    let a = now (s .a) in
-    let b = now (s .b) in
-    let n = c .before .before .before .before .smaller .result in
-    let i = c .before .before .before .agreed .result in
-    let x = number-of (take 8 (drop i a)) in
-    let y = number-of (take 8 (drop i b)) in
-    let rest = before (drop i a) (drop i b) in
-    let order = c .before .before .before .agreed .ensures .1 in
-    ap₂ ltb (c .before .number-at .ensures) (c .number-at2 .ensures) ∙ sym (order ∙ ap (λ (p : Bool). cond p (ltb x y) rest) (le-leb 8 (n - i) (c .before .before .if1 .taken)))
+returns c = ap₂ ltb (c .before .number-at .ensures) (c .number-at2 .ensures) ∙ sym (c .before .before .before .agreed .ensures .1 .0 (c .before .before .if1 .taken))
 
 loop-holds : tie.Need-loop-holds Inv-loop μ-loop
-loop-holds c =
-    let s = c .before .before .before .before .before .args in
-    let a = now (s .a) in
-    let b = now (s .b) in
-    let n = c .before .before .smaller .result in
-    let i = c .before .agreed .result in
-    let x = number-of (take 8 (drop i a)) in
-    let y = number-of (take 8 (drop i b)) in
-    let rest = before (drop i a) (drop i b) in
-    let order = c .before .agreed .ensures .1 in
-    (omega arith, omega arith, order ∙ ap (λ (p : Bool). cond p (ltb x y) rest) (lt-leb 8 (n - i) (c .if1 .left)))
+loop-holds c = (omega arith, omega arith, c .before .agreed .ensures .1 .1 (c .if1 .left))
 
 returns-2 : tie.Need-returns-2 Inv-loop μ-loop
 returns-2 c =
+    let s = c .before .before .before .before .before .before .before .before .args in
     let l = c .before .before .loop in
-    sym (l .inv .2 ∙ before-over (now (c .before .before .before .before .before .before .before .before .args .a)) (now (c .before .before .before .before .before .before .before .before .args .b)) (l .i) (omega arith) (omega arith))
+    sym (l .inv .2 ∙ before-over (now (s .a)) (now (s .b)) (l .i) (omega arith) (omega arith))
 
 shared-slice-read-if3 : tie.Need-shared-slice-read-if3 Inv-loop μ-loop
 shared-slice-read-if3 c = search needs
@@ -80,8 +60,9 @@ shared-slice-read-result-2 c = search needs
 
 returns-3 : tie.Need-returns-3 Inv-loop μ-loop
 returns-3 c =
-    let a = now (c .before .before .before .before .before .before .before .before .before .before .before .before .before .args .a) in
-    let b = now (c .before .before .before .before .before .before .before .before .before .before .before .before .before .args .b) in
+    let s = c .before .before .before .before .before .before .before .before .before .before .before .before .before .args in
+    let a = now (s .a) in
+    let b = now (s .b) in
     let l = c .before .before .before .before .before .before .before .loop in
     let step = l .inv .2 ∙ before-step a b (l .i) (omega arith) (omega arith) in
     sym (step ∙ ap (λ (p : Bool). cond p (before (drop (l .i + 1) a) (drop (l .i + 1) b)) (ltb (getD a (l .i) 0) (getD b (l .i) 0))) (ne-eqb _ _ (c .before .before .if3 .taken)))
@@ -94,16 +75,18 @@ loop-less c = search needs
 
 loop-again : tie.Need-loop-again Inv-loop μ-loop
 loop-again c =
-    let a = now (c .before .before .before .before .before .before .before .before .before .before .before .args .a) in
-    let b = now (c .before .before .before .before .before .before .before .before .before .before .before .args .b) in
+    let s = c .before .before .before .before .before .before .before .before .before .before .before .args in
+    let a = now (s .a) in
+    let b = now (s .b) in
     let l = c .before .before .before .before .before .loop in
     let step = l .inv .2 ∙ before-step a b (l .i) (omega arith) (omega arith) in
     (omega arith, omega arith, step ∙ ap (λ (p : Bool). cond p (before (drop (l .i + 1) a) (drop (l .i + 1) b)) (ltb (getD a (l .i) 0) (getD b (l .i) 0))) (eq-eqb _ _ (c .if3 .left)))
 
 returns-4 : tie.Need-returns-4 Inv-loop μ-loop
 returns-4 c =
+    let s = c .before .before .before .before .before .before .before .args in
     let l = c .before .loop in
-    sym (l .inv .2 ∙ before-at-end (now (c .before .before .before .before .before .before .before .args .a)) (now (c .before .before .before .before .before .before .before .args .b)) (l .i) (omega arith))
+    sym (l .inv .2 ∙ before-at-end (now (s .a)) (now (s .b)) (l .i) (omega arith))
 
 pub is-before-spec : {M : Type 1} → statement M
 is-before-spec =
