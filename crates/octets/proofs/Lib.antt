@@ -1,5 +1,6 @@
 -- The laws that the proofs about strings of bytes cite.
 pub mod Compared
+pub mod Digits
 pub mod Exact
 pub mod Fronts
 pub mod Numbers

@@ -1,7 +1,8 @@
 -- `octets::compare::is_same` meets its contract. Assumes nothing.
-use mathlib.Core.Bool.{Bool, _&&_}
+use mathlib.Core.Bool.{Bool, _&&_, and-false, and-true}
+use mathlib.Core.Logic.{⊎-elim}
 use mathlib.Core.Path.{_≡_, sym, ap, _∙_}
-use Prim.Native.Nat.{_+_, _≤_, _-_}
+use Prim.Native.Nat.{_+_, _-_}
 use native.Mathlib.Omega.{arith}
 use denote.Ref.{now}
 use borrow.Author.Tests.{eq-eqb, ne-eqb}
@@ -13,10 +14,10 @@ use Rattle.octets.proofs.compare.is_same.Statement.{statement}
 use Rattle.octets.proofs.compare.is_same.Tie as tie
 
 abbrev Inv-loop : tie.InvT-loop
-Inv-loop a b i₀ i = (i ≤ length a) × (length a ≡ length b) × (same a b ≡ same (drop i a) (drop i b))
+Inv-loop a b all₀ i₀ all i = (length a ≡ length b) × (same a b ≡ (all && same (drop i a) (drop i b)))
 
 abbrev μ-loop : tie.MeasureT-loop
-μ-loop a b i₀ i = length a - i
+μ-loop a b all₀ i₀ all i = length a - i
 
 returns : tie.Need-returns Inv-loop μ-loop
 returns c = sym (same-lengths (now (c .before .args .a)) (now (c .before .args .b)) (c .if1 .taken))
@@ -30,13 +31,6 @@ shared-slice-read-if2 c = search needs
 shared-slice-read-if2-2 : tie.Need-shared-slice-read-if2-2 Inv-loop μ-loop
 shared-slice-read-if2-2 c = search needs
 
-returns-2 : tie.Need-returns-2 Inv-loop μ-loop
-returns-2 c =
-    let a = now (c .before .before .before .before .before .before .args .a) in
-    let b = now (c .before .before .before .before .before .before .args .b) in
-    let l = c .before .before .before .before .loop in
-    sym (l .inv .2 ∙ same-step a b (l .i) (omega arith) (omega arith) ∙ ap (λ (p : Bool). p && same (drop (l .i + 1) a) (drop (l .i + 1) b)) (ne-eqb _ _ (c .if2 .taken)))
-
 add-i : tie.Need-add-i Inv-loop μ-loop
 add-i c = search needs
 
@@ -47,16 +41,19 @@ loop-again : tie.Need-loop-again Inv-loop μ-loop
 loop-again c =
     let a = now (c .before .before .before .before .before .before .args .a) in
     let b = now (c .before .before .before .before .before .before .args .b) in
-    let l = c .before .before .before .before .loop in (
-      omega arith,
-      l .inv .1,
-      l .inv .2 ∙ same-step a b (l .i) (omega arith) (omega arith) ∙ ap (λ (p : Bool). p && same (drop (l .i + 1) a) (drop (l .i + 1) b)) (eq-eqb _ _ (c .if2 .left)),
-    )
+    let l = c .before .before .before .before .loop in
+    let rest = same (drop (l .i + 1) a) (drop (l .i + 1) b) in
+    let step = l .inv .1 ∙ ap (λ (p : Bool). l .all && p) (same-step a b (l .i) (omega arith) (omega arith)) in
+    ⊎-elim
+    (λ w. (l .inv .0, step ∙ ap (λ (p : Bool). l .all && (p && rest)) (ne-eqb _ _ (w .0 .taken)) ∙ and-false (l .all) ∙ sym (ap (λ (p : Bool). p && rest) (w .1))))
+    (λ w. (l .inv .0, step ∙ ap (λ (p : Bool). l .all && (p && rest)) (eq-eqb _ _ (w .0 .left)) ∙ sym (ap (λ (p : Bool). p && rest) (w .1))))
+    (c .if2 .came)
 
-returns-3 : tie.Need-returns-3 Inv-loop μ-loop
-returns-3 c =
+returns-2 : tie.Need-returns-2 Inv-loop μ-loop
+returns-2 c =
+    let s = c .before .before .before .args in
     let l = c .before .loop in
-    sym (l .inv .2 ∙ same-end (now (c .before .before .before .args .a)) (now (c .before .before .before .args .b)) (l .i) (omega arith) (omega arith))
+    sym (l .inv .1 ∙ ap (λ (p : Bool). l .all && p) (same-end (now (s .a)) (now (s .b)) (l .i) (omega arith) (omega arith)) ∙ and-true (l .all))
 
 pub is-same-spec : {M : Type 1} → statement M
 is-same-spec =
@@ -68,8 +65,7 @@ is-same-spec =
     loop-holds
     shared-slice-read-if2
     shared-slice-read-if2-2
-    returns-2
     add-i
     loop-less
     loop-again
-    returns-3)
+    returns-2)

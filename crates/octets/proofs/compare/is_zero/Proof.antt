@@ -1,7 +1,8 @@
 -- `octets::compare::is_zero` meets its contract. Assumes nothing.
-use mathlib.Core.Bool.{Bool, _&&_}
+use mathlib.Core.Bool.{Bool, _&&_, and-false, and-true}
+use mathlib.Core.Logic.{⊎-elim}
 use mathlib.Core.Path.{_≡_, sym, ap, _∙_}
-use Prim.Native.Nat.{_+_, _≤_, _-_}
+use Prim.Native.Nat.{_+_, _-_}
 use native.Mathlib.Omega.{arith}
 use denote.Ref.{now}
 use borrow.Author.Tests.{eq-eqb, ne-eqb}
@@ -13,22 +14,16 @@ use Rattle.octets.proofs.compare.is_zero.Statement.{statement}
 use Rattle.octets.proofs.compare.is_zero.Tie as tie
 
 abbrev Inv-loop : tie.InvT-loop
-Inv-loop s i₀ i = (i ≤ length s) × (all-zero s ≡ all-zero (drop i s))
+Inv-loop s all₀ i₀ all i = all-zero s ≡ (all && all-zero (drop i s))
 
 abbrev μ-loop : tie.MeasureT-loop
-μ-loop s i₀ i = length s - i
+μ-loop s all₀ i₀ all i = length s - i
 
 loop-holds : tie.Need-loop-holds Inv-loop μ-loop
 loop-holds c = search needs
 
 shared-slice-read-if1 : tie.Need-shared-slice-read-if1 Inv-loop μ-loop
 shared-slice-read-if1 c = search needs
-
-returns : tie.Need-returns Inv-loop μ-loop
-returns c =
-    let s = now (c .before .before .before .before .args .s) in
-    let l = c .before .before .before .loop in
-    sym (l .inv .1 ∙ zero-step s (l .i) (omega arith) ∙ ap (λ (p : Bool). p && all-zero (drop (l .i + 1) s)) (ne-eqb _ _ (c .if1 .taken)))
 
 add-i : tie.Need-add-i Inv-loop μ-loop
 add-i c = search needs
@@ -40,23 +35,19 @@ loop-again : tie.Need-loop-again Inv-loop μ-loop
 loop-again c =
     let s = now (c .before .before .before .before .args .s) in
     let l = c .before .before .before .loop in
-    (omega arith, l .inv .1 ∙ zero-step s (l .i) (omega arith) ∙ ap (λ (p : Bool). p && all-zero (drop (l .i + 1) s)) (eq-eqb _ _ (c .if1 .left)))
+    let rest = all-zero (drop (l .i + 1) s) in
+    let step = l .inv ∙ ap (λ (p : Bool). l .all && p) (zero-step s (l .i) (omega arith)) in
+    ⊎-elim
+    (λ w. step ∙ ap (λ (p : Bool). l .all && (p && rest)) (ne-eqb _ _ (w .0 .taken)) ∙ and-false (l .all) ∙ sym (ap (λ (p : Bool). p && rest) (w .1)))
+    (λ w. step ∙ ap (λ (p : Bool). l .all && (p && rest)) (eq-eqb _ _ (w .0 .left)) ∙ sym (ap (λ (p : Bool). p && rest) (w .1)))
+    (c .if1 .came)
 
-returns-2 : tie.Need-returns-2 Inv-loop μ-loop
-returns-2 c =
+returns : tie.Need-returns Inv-loop μ-loop
+returns c =
     let l = c .before .loop in
-    sym (l .inv .1 ∙ zero-end (now (c .before .before .args .s)) (l .i) (omega arith))
+    sym (l .inv ∙ ap (λ (p : Bool). l .all && p) (zero-end (now (c .before .before .args .s)) (l .i) (omega arith)) ∙ and-true (l .all))
 
 pub is-zero-spec : {M : Type 1} → statement M
 is-zero-spec =
     tie.close
-    (tie.spec
-    Inv-loop
-    μ-loop
-    loop-holds
-    shared-slice-read-if1
-    returns
-    add-i
-    loop-less
-    loop-again
-    returns-2)
+    (tie.spec Inv-loop μ-loop loop-holds shared-slice-read-if1 add-i loop-less loop-again returns)
