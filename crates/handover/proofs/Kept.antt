@@ -3,52 +3,50 @@ use mathlib.Core.Path.{_≡_, refl, sym, ap, ap₂, _∙_}
 use mathlib.Core.Bool.{Bool, true, false, not, _&&_, _||_}
 use mathlib.Core.List.{List}
 use Prim.Native.Nat.{ℕ, zero, suc, _+_, _<_}
-use native.Mathlib.Decide.{decLt}
-use native.Mathlib.Nat.{not-suc-le-zero}
-use native.Mathlib.Numerals.{add-one}
 use native.Mathlib.Omega.{arith}
+use borrow.Author.Tests.{not-false}
 use lib.Dec.{eqb}
 use Rattle.octets.specs.Strings.{same}
 use Rattle.octets.proofs.RoundTrips.{and-left, and-right}
 use Rattle.rows.specs.Row.{tail-of, height-of}
 use Rattle.rows.specs.Table.{each}
-use Rattle.rows.proofs.Tables.{each-of}
+use Rattle.rows.proofs.Tables.{each-next, each-fails, each-of}
 use Rattle.roll.specs.Roll.{Roll}
 use Rattle.rules.specs.Rows.{is-absent, row-number}
 use Rattle.rules.specs.Bundle.{old-count, added, list-of, digests}
 use Rattle.rules.specs.Derivation.{some, row-in, no-more, grown, row-derived, roll-of, roll-derived, kept-by-some, derived}
 use Rattle.handover.specs.Asked.{led, none-added, kept}
 
-or-true : (p : Bool) {q : Bool} → q ≡ true → (p || q) ≡ true
-or-true true e = refl
-or-true false e = e
+-- a test holds of some number where its contrary does not hold of each
+not-both : (p q : Bool) → (not p || q) ≡ not (p && not q)
+not-both true true = refl
+not-both true false = refl
+not-both false q = refl
+
+some-each : (test : ℕ → Bool) (n : ℕ) → some test n ≡ not (each (λ i. not (test i)) n)
+unfolding some each
+some-each test zero = refl
+some-each test (suc n) = ap (λ (p : Bool). p || test n) (some-each test n) ∙ not-both (each (λ i. not (test i)) n) (test n)
 
 module _ (test : ℕ → Bool) where
   pub some-next : (i : ℕ) → some test i ≡ false → test i ≡ false → some test (i + 1) ≡ false
-  unfolding some
-  some-next i h k = rw (add-one i, h) k
+  some-next i h k =
+      some-each test (i + 1) ∙ ap not (each-next (λ j. not (test j)) i (not-false _ (sym (some-each test i) ∙ h)) (ap not k))
 
   -- one number for which it holds decides
   pub some-found : (n i : ℕ) → i < n → test i ≡ true → some test n ≡ true
-  unfolding some
-  some-found zero i h k = absurd (not-suc-le-zero h)
-  some-found (suc n) i h k = go (λ l. some-found n i l k) (decLt i n)
-    where
-      go : (i < n → some test n ≡ true) → Dec (i < n) → (some test n || test n) ≡ true
-      go earlier (yes l) = rw (earlier l)
-      go earlier (no g) = let e : i ≡ n = omega arith in or-true (some test n) (rw e at k)
+  some-found n i h k = some-each test n ∙ ap not (each-fails (λ j. not (test j)) n i h (ap not k))
 
 -- two tests that agree on all numbers below n
 module _ (f g : ℕ → Bool) where
-  pub some-same : (n : ℕ) → ((i : ℕ) → i < n → f i ≡ g i) → some f n ≡ some g n
-  unfolding some
-  some-same zero h = refl
-  some-same (suc n) h = ap₂ (λ (p q : Bool). p || q) (some-same n (λ i l. h i (omega arith))) (h n (omega arith))
-
   pub each-same : (n : ℕ) → ((i : ℕ) → i < n → f i ≡ g i) → each f n ≡ each g n
   unfolding each
   each-same zero h = refl
   each-same (suc n) h = ap₂ (λ (p q : Bool). p && q) (each-same n (λ i l. h i (omega arith))) (h n (omega arith))
+
+some-same : (f g : ℕ → Bool) (n : ℕ) → ((i : ℕ) → i < n → f i ≡ g i) → some f n ≡ some g n
+some-same f g n h =
+    some-each f n ∙ ap not (each-same (λ i. not (f i)) (λ i. not (g i)) n (λ i l. ap not (h i l))) ∙ sym (some-each g n)
 
 -- where ours is derived from each old roll
 module _ (ours : Roll) (s : List ℕ) (all : each (roll-derived ours s) (old-count s) ≡ true) where

@@ -12,8 +12,6 @@ pub use keys::MOST;
 pub use keys::is_member;
 pub use keys::is_rising;
 pub use numbers::majority;
-pub use reading::Counted;
 pub use reading::is_rack;
 pub use reading::read_rack;
-pub use writing::Written;
 pub use writing::write_rack;

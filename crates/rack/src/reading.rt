@@ -3,6 +3,7 @@ use crate::keys::KEY_BYTES;
 use crate::keys::Keys;
 use crate::keys::MOST;
 use crate::keys::is_rising;
+use octets::Counted;
 use octets::copy_at;
 ghost use mathlib.Core.Path.{_≡_};
 ghost use mathlib.Core.List.{_++_};
@@ -13,12 +14,6 @@ ghost use Rattle.octets.specs.Layouts.{holds};
 ghost use Rattle.rack.specs.Racks.{most, key-bytes, rack-bytes, rack-layout};
 ghost use Rattle.rack.specs.Tests.{rack-long};
 ghost use Rattle.rack.specs.Promise.{reading};
-
-// An answer, and how many keys there are.
-pub struct Counted {
-    pub answer: u32,
-    pub count: u8,
-}
 
 // Whether a string has the length that its first byte says, for a count of 1 to 15.
 fn has_rack_length(s: &[u8]) -> bool

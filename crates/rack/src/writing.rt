@@ -4,6 +4,7 @@ use crate::keys::Keys;
 use crate::keys::MOST;
 use crate::keys::is_rising;
 use crate::keys::is_unused_after;
+use octets::Written;
 use octets::copy_at;
 ghost use mathlib.Core.Path.{_≡_};
 ghost use mathlib.Core.List.{flatten};
@@ -13,12 +14,6 @@ ghost use Rattle.refusals.specs.{rack-broken};
 ghost use Rattle.octets.specs.Strings.{put};
 ghost use Rattle.octets.specs.Layouts.{writing};
 ghost use Rattle.rack.specs.Racks.{most, rack-bytes, rack-layout, rack-fits};
-
-// An answer, and how many bytes are written.
-pub struct Written {
-    pub answer: u32,
-    pub count: usize,
-}
 
 // Whether these are contents that reading gives.
 fn is_fitting(keys: Keys, count: usize) -> bool

@@ -8,6 +8,7 @@ use borrow.Author.Tests.{lt-ltb, le-ltb}
 use lib.ListN.{length}
 use Rattle.refusals.specs.{accepted, area-too-short, roll-broken}
 use Rattle.octets.specs.Strings.{put, same}
+use Rattle.octets.specs.declared.Counted.{Counted}
 use Rattle.octets.specs.Layouts.{holds, read, unwritten, writing}
 use Rattle.octets.proofs.Compared.{same-lengths}
 use Rattle.rows.specs.Table.{rows-fit}
@@ -15,7 +16,6 @@ use Rattle.rows.proofs.Tables.{and-false, fit-length, fit-count, fit-rest}
 use Rattle.rows.specs.Sizes.{table-bytes, most-rows, row-bytes}
 use Rattle.roll.specs.Blocks.{blocks, first-blocks, gathered, block-bytes, places-bytes}
 use Rattle.roll.specs.Roll.{Roll, said-count, filled, roll-layout, outcome, reading-roll, writing-roll}
-use Rattle.roll.specs.declared.Counted.{Counted}
 use Rattle.roll.proofs.Strings.{filled-front}
 use Rattle.roll.proofs.Blocks.{blocks-hold, blocks-within, first-length, blocks-say}
 use Rattle.roll.proofs.Cuts.{gathered-blocks}

@@ -1,11 +1,11 @@
 // Reading a roll.
-use crate::Counted;
 use crate::block::BLOCK;
 use crate::block::COUNT_PLACE;
 use crate::block::HEAD;
 use crate::block::PLACES_BYTES;
 use crate::block::blocks;
 use crate::block::made_block;
+use octets::Counted;
 use rows::MOST;
 use rows::TABLE;
 ghost use mathlib.Core.Path.{_≡_};

@@ -1,8 +1,8 @@
 // Writing a roll.
-use crate::Written;
 use crate::block::BLOCK;
 use crate::block::blocks;
 use crate::block::made_block;
+use octets::Written;
 use rows::TABLE;
 ghost use mathlib.Core.Path.{_≡_};
 ghost use Prim.Native.Nat.{_*_, _≤_};

@@ -1,5 +1,6 @@
--- The laws of the rules that proofs of calls and of safety cite: what each call asks first, and what is known of an accepted one.
+-- The laws of the rules that proofs of calls and of safety cite: what each call asks first, what a refused one leaves, and what is known of an accepted one.
 pub mod Firsts
+pub mod Refused
 pub mod FoundRows
 pub mod Initialised
 pub mod Noted

@@ -1,9 +1,9 @@
 -- How a call ends: refused, with nothing changed and nothing said, or with its effect and the statements in its output area. Assumes nothing.
-use mathlib.Core.Path.{_≡_, refl, ap, _∙_}
-use mathlib.Core.Bool.{Bool, true, false, not, cond, _&&_}
+use mathlib.Core.Path.{_≡_, ap, _∙_}
+use mathlib.Core.Bool.{true, false, not, _&&_}
 use mathlib.Core.List.{List, _++_, append-assoc}
 use Prim.Native.Nat.{ℕ}
-use borrow.Author.Tests.{eqb-true, eqb-false, ne-eqb}
+use borrow.Author.Tests.{ne-eqb}
 use lib.ListN.{length, take, drop}
 use lib.Seq.{take-at, drop-at}
 use lib.Dec.{eqb}
@@ -11,23 +11,11 @@ use Rattle.refusals.specs.{accepted}
 use Rattle.octets.specs.Strings.{put}
 use Rattle.statement.specs.declared.Statement.{Statement}
 use Rattle.rules.specs.declared.Head.{Head}
-use Rattle.rules.specs.Outcomes.{Lent, Outcome, refused, given, again, unless}
+use Rattle.rules.specs.Outcomes.{Outcome, refused, given, again, unless}
+use Rattle.rules.proofs.Refused.{Ends, stopped, went, ends}
 use Rattle.safety.specs.Calls.{Keeper, Call, lent, outcome-of, left-by, accepts, statements-in, for-signing}
 use Rattle.safety.proofs.Views.{View, idles, Idle}
 use Rattle.safety.proofs.Tales.{says}
-
--- a rule's outcome: the refusal, or the effect
-pub data Ends (n height : ℕ) (k : Lent) (effect o : Outcome) : Type 0 where
-  stopped : (n ≡ accepted → ⊥) → o ≡ refused n height k → Ends n height k effect o
-  went : n ≡ accepted → o ≡ effect → Ends n height k effect o
-
-pub ends : (n height : ℕ) (k : Lent) (effect : Outcome) → Ends n height k effect (unless n height k effect)
-unfolding unless
-ends n height k effect = go (eqb n accepted) refl
-  where
-    go : (b : Bool) → eqb n accepted ≡ b → Ends n height k effect (cond b effect (refused n height k))
-    go true e = went (eqb-true n accepted e) refl
-    go false e = stopped (eqb-false n accepted e) refl
 
 module _ (key : List ℕ) (k : Keeper) (call : Call) where
   -- a refused call changes nothing and says nothing

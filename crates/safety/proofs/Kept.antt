@@ -24,13 +24,14 @@ use Rattle.rules.specs.Read.{reading, appending-and-reading}
 use Rattle.rules.specs.Finalise.{last-words, handed-over, finalise-refusal, leaving, finalising}
 use Rattle.rules.specs.Activate.{activating}
 use Rattle.rules.specs.Check.{checking}
+use Rattle.rules.proofs.Refused.{Ends, stopped, went, ends}
 use Rattle.safety.specs.Calls.{Keeper, Call, Wake, Initialise, New, Append, Read, Append-and-read, Finalise, Activate, Bytes-to-check}
 use Rattle.safety.specs.Calls.{lent, outcome-of, left-by, accepts, statements-in, is-wake, Sized, Taken}
 use Rattle.safety.specs.Histories.{Event, At, Judged, keeper-after, called}
 use Rattle.safety.specs.Chip.{Orderly, Lawful, at-first, and-then}
 use Rattle.safety.proofs.Views.{Waking}
 use Rattle.safety.proofs.Tales.{says}
-use Rattle.safety.proofs.Ended.{Ends, stopped, went, ends, Gives, gives}
+use Rattle.safety.proofs.Ended.{Gives, gives}
 use Rattle.safety.proofs.Sizes.{Whole}
 use Rattle.safety.proofs.SeenInitialise.{founded-whole, preparing-whole}
 

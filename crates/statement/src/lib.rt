@@ -22,6 +22,7 @@ pub use kinds::READING_SIZE;
 pub use kinds::RECEIPT_SIZE;
 pub use kinds::kind_number;
 pub use kinds::size_of;
+use octets::Written;
 use put::put_statement;
 ghost use mathlib.Core.Path.{_≡_};
 ghost use Rattle.refusals.specs.{statement-not-asked};
@@ -60,12 +61,6 @@ pub struct Statement {
 pub struct Reading {
     pub answer: u32,
     pub statement: Statement,
-}
-
-// The answer of a writing, and how many bytes of the area were written.
-pub struct Written {
-    pub answer: u32,
-    pub count: usize,
 }
 
 // Takes a statement apart.

@@ -12,64 +12,40 @@ use Rattle.worked.proofs.Strings.{key-A, key-B, rack-A, rack-B, ledger,
 abbrev pub keepers : List (List ℕ)
 keepers = key-A ∷ key-B ∷ []
 
+-- a record by its parts
+abbrev kept : (status count : ℕ) (key identity own previous next table : List ℕ) → Keeper
+kept status count key identity own previous next table =
+    record {
+      head = record { status = status; count = count; key = key; identity = identity; own = own; previous = previous; next = next };
+      table = table;
+    }
+
 -- the records before any call: no sound ones
 unfoldable pub start : List ℕ → Keeper
-start key =
-    record {
-      head = record { status = 9; count = 200; key = no-digest; identity = no-digest; own = no-digest; previous = no-digest; next = no-digest };
-      table = replicate 3528 5;
-    }
+start key = kept 9 200 no-digest no-digest no-digest no-digest no-digest (replicate 3528 5)
 
 -- A's record after each of its calls
 abbrev pub woken-A : Keeper
-woken-A =
-    record {
-      head = record { status = 0; count = 0; key = key-A; identity = no-digest; own = no-digest; previous = no-digest; next = no-digest };
-      table = empty-table;
-    }
+woken-A = kept 0 0 key-A no-digest no-digest no-digest no-digest empty-table
 
 abbrev pub founded-A : Keeper
-founded-A =
-    record {
-      head = record { status = 2; count = 0; key = key-A; identity = digest-A; own = digest-A; previous = no-digest; next = no-digest };
-      table = empty-table;
-    }
+founded-A = kept 2 0 key-A digest-A digest-A no-digest no-digest empty-table
 
 abbrev pub keeping-A : Keeper
-keeping-A =
-    record {
-      head = record { status = 2; count = 1; key = key-A; identity = digest-A; own = digest-A; previous = no-digest; next = no-digest };
-      table = full-table;
-    }
+keeping-A = kept 2 1 key-A digest-A digest-A no-digest no-digest full-table
 
 abbrev pub finalised-A : Keeper
-finalised-A =
-    record {
-      head = record { status = 3; count = 1; key = key-A; identity = digest-A; own = digest-A; previous = no-digest; next = digest-B };
-      table = full-table;
-    }
+finalised-A = kept 3 1 key-A digest-A digest-A no-digest digest-B full-table
 
 -- and B's
 abbrev pub woken-B : Keeper
-woken-B =
-    record {
-      head = record { status = 0; count = 0; key = key-B; identity = no-digest; own = no-digest; previous = no-digest; next = no-digest };
-      table = empty-table;
-    }
+woken-B = kept 0 0 key-B no-digest no-digest no-digest no-digest empty-table
 
 abbrev pub prepared-B : Keeper
-prepared-B =
-    record {
-      head = record { status = 1; count = 1; key = key-B; identity = digest-A; own = digest-B; previous = digest-A; next = no-digest };
-      table = full-table;
-    }
+prepared-B = kept 1 1 key-B digest-A digest-B digest-A no-digest full-table
 
 abbrev pub active-B : Keeper
-active-B =
-    record {
-      head = record { status = 2; count = 1; key = key-B; identity = digest-A; own = digest-B; previous = digest-A; next = no-digest };
-      table = full-table;
-    }
+active-B = kept 2 1 key-B digest-A digest-B digest-A no-digest full-table
 
 -- the statements that they return
 abbrev pub founding-A : List ℕ

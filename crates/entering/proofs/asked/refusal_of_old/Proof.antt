@@ -1,20 +1,38 @@
 -- `entering::asked::refusal_of_old` meets its contract. Assumes nothing.
 use mathlib.Core.Path.{_≡_, sym, _∙_}
-use mathlib.Core.Bool.{true, false}
+use mathlib.Core.Bool.{true, false, not}
+use mathlib.Core.List.{[], _∷_}
 use denote.Ref.{now}
 use borrow.Author.Tests.{eq-eqb, ne-eqb, not-true, not-false}
 use borrow.Author.Needs.{needs}
-use Rattle.refusals.specs.Order.{first}
+use Rattle.refusals.specs.{roll-broken}
+use Rattle.refusals.specs.Order.{_⇒_, first}
+use Rattle.octets.specs.Layouts.{holds}
+use Rattle.roll.specs.Roll.{roll-layout}
 use Rattle.rules.specs.Initialise.{absent}
+use Rattle.entering.specs.Parts.{old-tests}
 use Rattle.entering.proofs.Enters.{neither, both}
 use Rattle.entering.proofs.asked.refusal_of_old.Statement.{statement}
 use Rattle.entering.proofs.asked.refusal_of_old.Tie as tie
 
+abbrev start : tie.Else2 → tie.Start
+start c = c .before .before .before .before .before
+
 -- where a roll is given, so is a previous rack
-there : (c : tie.Else2) → absent (now (c .before .before .before .before .before .args .previous)) ≡ false
+there : (c : tie.Else2) → absent (now (start c .args .previous)) ≡ false
 there c =
-    let a = c .before .before .before .before .before .args in
+    let a = start c .args in
     both (now (a .roll)) (now (a .previous)) (sym (c .before .before .is-alone .ensures) ∙ c .before .if1 .left) (ne-eqb _ _ (c .if2 .left))
+
+-- and where that rack holds, the roll decides
+decides :
+    (c : tie.Else3)
+    → let a = start (c .before .before) .args in first (old-tests (now (a .roll)) (now (a .previous))) ≡ first ((not (holds roll-layout (now (a .roll))) ⇒ roll-broken) ∷ [])
+unfolding first
+decides c =
+    let some = c .before .before in
+    let held = c .before .is-rack in
+    rw (ne-eqb _ _ (some .if2 .left), there some, sym (held .ensures) ∙ not-false (held .result) (c .if3 .left))
 
 is-alone-requires : tie.Need-is-alone-requires
 is-alone-requires c κs = search needs
@@ -46,30 +64,14 @@ is-roll-requires c κs = search needs
 returns-4 : tie.Need-returns-4
 unfolding first
 returns-4 c =
-    let racked = c .before .before in
-    let some = racked .before .before in
-    let holds = racked .before .is-rack in
     let rolls = c .before .is-roll in
-    rw (
-      ne-eqb _ _ (some .if2 .left),
-      there some,
-      sym (holds .ensures) ∙ not-false (holds .result) (racked .if3 .left),
-      sym (rolls .ensures) ∙ not-true (rolls .result) (c .if4 .taken),
-    )
+    sym (decides (c .before .before) ∙ rw (sym (rolls .ensures) ∙ not-true (rolls .result) (c .if4 .taken)))
 
 returns-5 : tie.Need-returns-5
 unfolding first
 returns-5 c =
-    let racked = c .before .before in
-    let some = racked .before .before in
-    let holds = racked .before .is-rack in
     let rolls = c .before .is-roll in
-    rw (
-      ne-eqb _ _ (some .if2 .left),
-      there some,
-      sym (holds .ensures) ∙ not-false (holds .result) (racked .if3 .left),
-      sym (rolls .ensures) ∙ not-false (rolls .result) (c .if4 .left),
-    )
+    sym (decides (c .before .before) ∙ rw (sym (rolls .ensures) ∙ not-false (rolls .result) (c .if4 .left)))
 
 pub refusal-of-old-spec : {M : Type 1} → statement M
 refusal-of-old-spec =

@@ -1,6 +1,6 @@
 -- `handover::descent::rows_derived` meets its contract. Assumes nothing.
 use mathlib.Core.Path.{_≡_, refl, sym, ap, _∙_}
-use mathlib.Core.Bool.{true}
+use mathlib.Core.Bool.{Bool, true}
 use mathlib.Core.List.{List}
 use Prim.Native.Nat.{ℕ, _≤_, _<_, _+_, _-_, _*_, _/_}
 use native.Mathlib.Nat.{add-zero, mul-le-mul-left}
@@ -26,6 +26,43 @@ Inv-loop table rows old size s i at₀ r₀ at r =
 abbrev μ-loop : tie.MeasureT-loop
 μ-loop table rows old size s i at₀ r₀ at r = rows - r
 
+-- in a turn: what the function was handed, and the number of the list
+abbrev start : tie.In-loop Inv-loop μ-loop → tie.Start Inv-loop μ-loop
+start c = c .before .before .before .before .before .before
+
+abbrev listed : tie.In-loop Inv-loop μ-loop → ℕ
+listed c = list-of (start c .args .rows) (start c .args .i) (c .before .loop .r)
+
+below : (c : tie.In-loop Inv-loop μ-loop) → listed c < start c .args .rows * old-count (now (start c .args .s))
+below c = let a = start c .args in list-below (a .rows) (a .i) (old-count (now (a .s))) (c .before .loop .r) (start c .pre .3) (omega arith)
+
+abbrev turn : tie.After-row-derived Inv-loop μ-loop → tie.In-loop Inv-loop μ-loop
+turn c = c .before .before .before
+
+-- where the next list begins
+ended : (c : tie.After-next-list Inv-loop μ-loop) → c .next-list .result ≡ list-at (now (start (c .before) .args .s)) (listed (c .before) + 1)
+ended c =
+    let l = c .before .before .loop in
+    list-step (now (start (c .before) .args .s)) (listed (c .before)) (l .at) _ (l .inv .1) (c .next-list .ensures)
+
+-- what the turn finds is the row's test
+abbrev tested : tie.In-loop Inv-loop μ-loop → ℕ → Bool
+tested c =
+    let a = start c .args in
+    led (record { count = a .rows; rows = now (a .table) }) (record { count = a .size; rows = now (a .old) }) (now (a .s)) (a .i)
+
+found : (c : tie.After-row-derived Inv-loop μ-loop) → c .row-derived .result ≡ tested (turn c) (turn c .before .loop .r)
+found c =
+    let a = start (turn c) .args in
+    let s = now (a .s) in
+    let l = turn c .before .loop in
+    let ours : Roll = record { count = a .rows; rows = now (a .table) } in
+    let old : Roll = record { count = a .size; rows = now (a .old) } in
+    let j : ℕ = listed (turn c) in
+    c .row-derived .ensures (a .rows)
+    ∙ ap (λ (d : List ℕ). row-derived ours old (l .r) d (length d / 32)) (digests-part s j (ap (λ (k : ℕ). k + 2) (l .inv .1)) (ended (c .before .before)))
+    ∙ ap (row-derived ours old (l .r) (digests s j)) (digests-count s j (list-lies (start (turn c) .pre .0) j (below (turn c))))
+
 mul-list-at : tie.Need-mul-list-at Inv-loop μ-loop
 mul-list-at c =
     let start = c .before .before .before in
@@ -48,21 +85,11 @@ loop-holds c =
 
 next-list-requires : tie.Need-next-list-requires Inv-loop μ-loop
 next-list-requires c κs =
-    let start = c .before .before .before .before .before .before in
-    let a = start .args in
-    let s = now (a .s) in
-    let l = c .before .loop in
-    let below = list-below (a .rows) (a .i) (old-count s) (l .r) (start .pre .3) (omega arith) in
-    (omega (arith, l .inv .1, list-lies (start .pre .0) (list-of (a .rows) (a .i) (l .r)) below), start .pre .0 .short)
+    (omega (arith, c .before .loop .inv .1, list-lies (start c .pre .0) (listed c) (below c)), start c .pre .0 .short)
 
 add-row-derived : tie.Need-add-row-derived Inv-loop μ-loop
 add-row-derived c =
-    let start = c .before .before .before .before .before .before .before in
-    let a = start .args in
-    let s = now (a .s) in
-    let l = c .before .before .loop in
-    let below = list-below (a .rows) (a .i) (old-count s) (l .r) (start .pre .3) (omega arith) in
-    omega (arith, l .inv .1, start .pre .0 .short, list-lies (start .pre .0) (list-of (a .rows) (a .i) (l .r)) below)
+    let p = start (c .before) .pre .0 in omega (arith, c .before .before .loop .inv .1, p .short, list-lies p (listed (c .before)) (below (c .before)))
 
 sub-row-derived : tie.Need-sub-row-derived Inv-loop μ-loop
 sub-row-derived c = omega (arith, c .next-list .ensures)
@@ -71,35 +98,15 @@ part-row-derived-start : tie.Need-part-row-derived-start Inv-loop μ-loop
 part-row-derived-start c = omega (arith, c .next-list .ensures)
 
 part-row-derived-end : tie.Need-part-row-derived-end Inv-loop μ-loop
-part-row-derived-end c =
-    let start = c .before .before .before .before .before .before .before in
-    let a = start .args in
-    let s = now (a .s) in
-    let l = c .before .before .loop in
-    let j : ℕ = list-of (a .rows) (a .i) (l .r) in
-    let below : j < a .rows * old-count s = list-below (a .rows) (a .i) (old-count s) (l .r) (start .pre .3) (omega arith) in
-    omega (arith, list-step s j (l .at) _ (l .inv .1) (c .next-list .ensures), list-begins (start .pre .0) (j + 1) (omega arith))
+part-row-derived-end c = omega (arith, ended c, list-begins (start (c .before) .pre .0) (listed (c .before) + 1) (omega (arith, below (c .before))))
 
 row-derived-requires : tie.Need-row-derived-requires Inv-loop μ-loop
-row-derived-requires c κs =
-    let start = c .before .before .before .before .before .before .before .before in
-    (omega (arith, start .pre .0 .few), start .pre .1, start .pre .2)
+row-derived-requires c κs = let p = start (c .before .before) .pre in (omega (arith, p .0 .few), p .1, p .2)
 
 returns : tie.Need-returns Inv-loop μ-loop
 returns c =
-    let start = c .before .before .before .before .before .before .before .before .before .before in
-    let a = start .args in
-    let s = now (a .s) in
-    let l = c .before .before .before .before .before .loop in
-    let ours : Roll = record { count = a .rows; rows = now (a .table) } in
-    let old : Roll = record { count = a .size; rows = now (a .old) } in
-    let j : ℕ = list-of (a .rows) (a .i) (l .r) in
-    let below : j < a .rows * old-count s = list-below (a .rows) (a .i) (old-count s) (l .r) (start .pre .3) (omega arith) in
-    let one : c .before .row-derived .result ≡ led ours old s (a .i) (l .r) =
-    c .before .row-derived .ensures (a .rows)
-    ∙ ap (λ (d : List ℕ). row-derived ours old (l .r) d (length d / 32)) (digests-part s j (ap (λ (k : ℕ). k + 2) (l .inv .1)) (list-step s j (l .at) _ (l .inv .1) (c .before .before .before .next-list .ensures)))
-    ∙ ap (row-derived ours old (l .r) (digests s j)) (digests-count s j (list-lies (start .pre .0) j below)) in
-    sym (each-fails (led ours old s (a .i)) (a .rows) (l .r) (omega arith) (sym one ∙ not-true _ (c .if1 .taken)))
+    let t = turn (c .before) in
+    sym (each-fails (tested t) (start t .args .rows) (t .before .loop .r) (omega arith) (sym (found (c .before)) ∙ not-true _ (c .if1 .taken)))
 
 add-r : tie.Need-add-r Inv-loop μ-loop
 add-r c = omega arith
@@ -109,20 +116,11 @@ loop-less c = omega arith
 
 loop-again : tie.Need-loop-again Inv-loop μ-loop
 loop-again c =
-    let start = c .before .before .before .before .before .before .before .before .before .before in
-    let a = start .args in
-    let s = now (a .s) in
-    let l = c .before .before .before .before .before .loop in
-    let ours : Roll = record { count = a .rows; rows = now (a .table) } in
-    let old : Roll = record { count = a .size; rows = now (a .old) } in
-    let j : ℕ = list-of (a .rows) (a .i) (l .r) in
-    let below : j < a .rows * old-count s = list-below (a .rows) (a .i) (old-count s) (l .r) (start .pre .3) (omega arith) in
-    let one : c .before .row-derived .result ≡ led ours old s (a .i) (l .r) =
-    c .before .row-derived .ensures (a .rows)
-    ∙ ap (λ (d : List ℕ). row-derived ours old (l .r) d (length d / 32)) (digests-part s j (ap (λ (k : ℕ). k + 2) (l .inv .1)) (list-step s j (l .at) _ (l .inv .1) (c .before .before .before .next-list .ensures)))
-    ∙ ap (row-derived ours old (l .r) (digests s j)) (digests-count s j (list-lies (start .pre .0) j below)) in
-    let next : j + 1 ≡ list-of (a .rows) (a .i) (l .r + 1) = omega arith in
-    (omega arith, list-step s j (l .at) _ (l .inv .1) (c .before .before .before .next-list .ensures) ∙ ap (list-at s) next, each-next (led ours old s (a .i)) (l .r) (l .inv .2) (sym one ∙ not-false _ (c .if1 .left)))
+    let t = turn (c .before) in
+    let a = start t .args in
+    let l = t .before .loop in
+    let next : listed t + 1 ≡ list-of (a .rows) (a .i) (l .r + 1) = omega arith in
+    (omega arith, ended (c .before .before .before) ∙ ap (list-at (now (a .s))) next, each-next (tested t) (l .r) (l .inv .2) (sym (found (c .before)) ∙ not-false _ (c .if1 .left)))
 
 returns-2 : tie.Need-returns-2 Inv-loop μ-loop
 returns-2 c =
