@@ -1,10 +1,10 @@
 //! This file holds hostile histories aimed at 01's slips; sound rules refuse at the decisive step, broken ones are caught.
 
-use super::call::Call;
 use super::good;
 use super::pairing::Pairing;
 use super::prng::Prng;
 use super::world::{part, World};
+use crate::call::Call;
 use crate::roll::in_blocks;
 use crate::row::Row;
 

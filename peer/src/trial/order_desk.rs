@@ -1,10 +1,10 @@
 //! This file holds the refusals of the verdict, in 01's order, with the inputs that meet them.
 
-use super::call::{AskVerdict, Call};
 use super::good;
 use super::order::{Case, Damages, Plan};
 use super::order_calls::{case, some_statement, spoil_rack, RACK_DAMAGES};
 use super::prng::Prng;
+use crate::call::{AskVerdict, Call};
 use crate::row::TOP;
 use crate::statement::{self, Statement, KIND_APPEND, KIND_NEW, KIND_READ};
 
