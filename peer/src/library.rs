@@ -2,9 +2,7 @@
 
 #![allow(unsafe_code)]
 
-use crate::call::{
-    Answer, AskVerdict, Call, HashRead, Lent, Papers, RackRead, Reply, RollRead, StatementRead, Verdict,
-};
+use crate::call::{Answer, Call, HashRead, Lent, Papers, RackRead, Reply, RollRead, StatementRead, Verdict};
 use crate::header::{Asked, Question, Written};
 use crate::party::Party;
 use crate::rack::Rack;
@@ -119,18 +117,37 @@ impl Party for Library {
         "library".to_string()
     }
 
-    fn perform(&self, lent: &mut Lent, asked: &Call) -> Reply {
-        match asked {
-            Call::Hash { input } => Reply::Hash(hash(input)),
-            Call::ReadRack { bytes } => Reply::Rack(Box::new(call!(mahqurith_read_rack [] [bytes] []))),
-            Call::ReadRoll { bytes } => Reply::Roll(Box::new(call!(mahqurith_read_roll [] [bytes] []))),
-            Call::ReadStatement { bytes } => Reply::Statement(Box::new(call!(mahqurith_read_statement [] [bytes] []))),
-            Call::Verdict(ask) => Reply::Verdict(verdict(ask)),
-            Call::WriteRack { .. } | Call::WriteRoll { .. } | Call::WriteStatement { .. } => {
-                Reply::Answer(write(&mut lent.area, asked).into())
+    fn perform(&self, Lent { head, table, area }: &mut Lent, asked: &Call) -> Reply {
+        let fixed = fixed_sizes(asked);
+        Reply::Answer(match asked {
+            Call::Hash { input } => return Reply::Hash(hash(input)),
+            Call::ReadRack { bytes } => return Reply::Rack(Box::new(call!(mahqurith_read_rack [] [bytes] []))),
+            Call::ReadRoll { bytes } => return Reply::Roll(Box::new(call!(mahqurith_read_roll [] [bytes] []))),
+            Call::ReadStatement { bytes } => {
+                return Reply::Statement(Box::new(call!(mahqurith_read_statement [] [bytes] [])))
             }
-            _ => Reply::Answer(on_record(lent, asked)),
-        }
+            Call::Verdict(ask) => {
+                return Reply::Verdict(call!(mahqurith_verdict [ask.into()] [ask.rack, ask.statement, ask.signers] []))
+            }
+            Call::WriteRack { rack } => call!(mahqurith_write_rack [*rack] [] [area]).into(),
+            Call::WriteRoll { roll } => call!(mahqurith_write_roll [**roll] [] [area]).into(),
+            Call::WriteStatement { statement } => call!(mahqurith_write_statement [*statement] [] [area]).into(),
+            Call::Wake { .. } => call!(mahqurith_wake {head, table} [fixed] [] []),
+            Call::Initialise { roll, previous, own, .. } => {
+                call!(mahqurith_initialise {head, table} [fixed] [roll, previous, own] [area])
+            }
+            Call::New { .. } => call!(mahqurith_new {head, table} [fixed] [] [area]),
+            Call::Append { .. } => call!(mahqurith_append {head, table} [fixed] [] [area]),
+            Call::Read { .. } => call!(mahqurith_read {head, table} [fixed] [] [area]),
+            Call::AppendAndRead { .. } => call!(mahqurith_append_and_read {head, table} [fixed] [] [area]),
+            Call::Finalise { next } => call!(mahqurith_finalise {head, table} [] [next] [area]),
+            Call::Activate(Papers { previous, own, bundle }) => {
+                call!(mahqurith_activate {head, table} [] [previous, own, bundle] [])
+            }
+            Call::BytesToCheck { papers: Papers { previous, own, bundle }, .. } => {
+                call!(mahqurith_bytes_to_check {head, table} [fixed] [previous, own, bundle] [area])
+            }
+        })
     }
 }
 
@@ -144,41 +161,6 @@ fn hash(input: &[u8]) -> HashRead {
         digest = [0; 32];
     }
     HashRead { number, digest }
-}
-
-fn verdict(ask: &AskVerdict) -> Verdict {
-    call!(mahqurith_verdict [ask.into()] [ask.rack, ask.statement, ask.signers] [])
-}
-
-fn write(area: &mut [u8], asked: &Call) -> Written {
-    match asked {
-        Call::WriteRack { rack } => call!(mahqurith_write_rack [*rack] [] [area]),
-        Call::WriteRoll { roll } => call!(mahqurith_write_roll [**roll] [] [area]),
-        Call::WriteStatement { statement } => call!(mahqurith_write_statement [*statement] [] [area]),
-        _ => unreachable!("no call that writes a layout"),
-    }
-}
-
-fn on_record(Lent { head, table, area }: &mut Lent, asked: &Call) -> Answer {
-    let fixed = fixed_sizes(asked);
-    match asked {
-        Call::Wake { .. } => call!(mahqurith_wake {head, table} [fixed] [] []),
-        Call::Initialise { roll, previous, own, .. } => {
-            call!(mahqurith_initialise {head, table} [fixed] [roll, previous, own] [area])
-        }
-        Call::New { .. } => call!(mahqurith_new {head, table} [fixed] [] [area]),
-        Call::Append { .. } => call!(mahqurith_append {head, table} [fixed] [] [area]),
-        Call::Read { .. } => call!(mahqurith_read {head, table} [fixed] [] [area]),
-        Call::AppendAndRead { .. } => call!(mahqurith_append_and_read {head, table} [fixed] [] [area]),
-        Call::Finalise { next } => call!(mahqurith_finalise {head, table} [] [next] [area]),
-        Call::Activate(Papers { previous, own, bundle }) => {
-            call!(mahqurith_activate {head, table} [] [previous, own, bundle] [])
-        }
-        Call::BytesToCheck { papers: Papers { previous, own, bundle }, .. } => {
-            call!(mahqurith_bytes_to_check {head, table} [fixed] [previous, own, bundle] [area])
-        }
-        _ => unreachable!("no call on a record"),
-    }
 }
 
 /// What a keeper is asked at fixed sizes.

@@ -1,6 +1,6 @@
 //! This file holds the trait of a party, anyone who answers 01's calls, and the peer, who answers by this library's rules.
 
-use crate::call::{Answer, Call, HashRead, Lent, RackRead, Reply, RollRead, StatementRead, Verdict};
+use crate::call::{Answer, AskVerdict, Call, HashRead, Lent, RackRead, Reply, RollRead, StatementRead, Verdict};
 use crate::calls::{self, Tried};
 use crate::desk;
 use crate::rack::{self, Rack};
@@ -32,60 +32,68 @@ impl Party for Peer {
 /// Answers a call by these rules.
 pub fn perform_by(rules: &dyn Rules, lent: &mut Lent, call: &Call) -> Reply {
     match call {
-        Call::Hash { input } => {
-            let (number, digest) = apart(sha256::sha256(input), [0; 32]);
-            Reply::Hash(HashRead { number, digest })
+        Call::Hash { input } => hash(input),
+        Call::ReadRack { bytes } => read_rack(bytes),
+        Call::ReadRoll { bytes } => read_roll(bytes),
+        Call::ReadStatement { bytes } => read_statement(bytes),
+        Call::WriteRack { rack } => written(rack::write(rack, &mut lent.area)),
+        Call::WriteRoll { roll } => written(roll::write(roll, &mut lent.area)),
+        Call::WriteStatement { statement } => written(statement::write(statement, &mut lent.area)),
+        Call::Wake { key } => tried(calls::wake(lent, key)),
+        Call::Initialise { identity, roll, previous, own } => {
+            tried(calls::initialise(lent, identity, roll, previous, own))
         }
-        Call::ReadRack { bytes } => {
-            let (number, rack) = apart(rack::read(bytes), Rack::ZERO);
-            Reply::Rack(Box::new(RackRead { number, rack }))
+        Call::New { label } => tried(calls::new(lent, label)),
+        Call::Append { label, entry, expected } => tried(calls::append(lent, label, entry, *expected)),
+        Call::Read { label, nonce } => tried(calls::read(lent, label, nonce)),
+        Call::AppendAndRead { label, entry, expected, nonce } => {
+            tried(calls::append_and_read(lent, label, entry, *expected, nonce))
         }
-        Call::ReadRoll { bytes } => {
-            let (number, roll) = apart(roll::read(bytes), Roll::EMPTY);
-            Reply::Roll(Box::new(RollRead { number, roll }))
-        }
-        Call::ReadStatement { bytes } => {
-            let (number, statement) = apart(statement::read(bytes), Statement::ZERO);
-            Reply::Statement(Box::new(StatementRead { number, statement }))
-        }
-        Call::Verdict(ask) => {
-            let (number, statement) = apart(desk::verdict(rules, ask), Statement::ZERO);
-            Reply::Verdict(Verdict { number, tail: statement.tail, height: statement.height })
-        }
-        _ => Reply::Answer(try_with_lent(rules, lent, call).unwrap_or_else(|refusal| refusal)),
+        Call::Finalise { next } => tried(calls::finalise(lent, next)),
+        Call::Activate(papers) => tried(calls::activate(rules, lent, papers)),
+        Call::BytesToCheck { papers, list, entry } => tried(calls::bytes_to_check(rules, lent, papers, *list, *entry)),
+        Call::Verdict(ask) => verdict(rules, ask),
     }
 }
 
-/// A reading as its number and contents, the latter zero in a refusal.
-fn apart<T>(reading: Result<T, Refusal>, zero: T) -> (Refusal, T) {
-    match reading {
+fn tried(tried: Tried) -> Reply {
+    Reply::Answer(tried.unwrap_or_else(|refusal| refusal))
+}
+
+fn written(written: Result<usize, Refusal>) -> Reply {
+    tried(written.map(Answer::accepted).map_err(Answer::from))
+}
+
+fn hash(input: &[u8]) -> Reply {
+    let (number, digest) = apart(sha256::sha256(input), [0; 32]);
+    Reply::Hash(HashRead { number, digest })
+}
+
+fn read_rack(bytes: &[u8]) -> Reply {
+    let (number, rack) = apart(rack::read(bytes), Rack::ZERO);
+    Reply::Rack(Box::new(RackRead { number, rack }))
+}
+
+fn read_roll(bytes: &[u8]) -> Reply {
+    let (number, roll) = apart(roll::read(bytes), Roll::EMPTY);
+    Reply::Roll(Box::new(RollRead { number, roll }))
+}
+
+fn read_statement(bytes: &[u8]) -> Reply {
+    let (number, statement) = apart(statement::read(bytes), Statement::ZERO);
+    Reply::Statement(Box::new(StatementRead { number, statement }))
+}
+
+/// "Gives tail and height."
+fn verdict(rules: &dyn Rules, ask: &AskVerdict) -> Reply {
+    let (number, statement) = apart(desk::verdict(rules, ask), Statement::ZERO);
+    Reply::Verdict(Verdict { number, tail: statement.tail, height: statement.height })
+}
+
+/// What was tried as its number and contents, the latter zero in a refusal.
+fn apart<T>(tried: Result<T, Refusal>, zero: T) -> (Refusal, T) {
+    match tried {
         Ok(contents) => (0, contents),
         Err(number) => (number, zero),
     }
-}
-
-/// The calls that write or change.
-fn try_with_lent(rules: &dyn Rules, lent: &mut Lent, call: &Call) -> Tried {
-    match call {
-        Call::WriteRack { rack } => Ok(Answer::accepted(rack::write(rack, &mut lent.area)?)),
-        Call::WriteRoll { roll } => Ok(Answer::accepted(roll::write(roll, &mut lent.area)?)),
-        Call::WriteStatement { statement } => Ok(Answer::accepted(statement::write(statement, &mut lent.area)?)),
-        Call::Wake { key } => calls::wake(lent, key),
-        Call::Initialise { identity, roll, previous, own } => calls::initialise(lent, identity, roll, previous, own),
-        Call::New { label } => calls::new(lent, label),
-        Call::Append { label, entry, expected } => calls::append(lent, label, entry, *expected),
-        Call::Read { label, nonce } => calls::read(lent, label, nonce),
-        Call::AppendAndRead { label, entry, expected, nonce } => {
-            calls::append_and_read(lent, label, entry, *expected, nonce)
-        }
-        Call::Finalise { next } => calls::finalise(lent, next),
-        Call::Activate(papers) => calls::activate(rules, lent, papers),
-        Call::BytesToCheck { papers, list, entry } => calls::bytes_to_check(rules, lent, papers, *list, *entry),
-        Call::Hash { .. } | Call::ReadRack { .. } | Call::ReadRoll { .. } | Call::ReadStatement { .. } => no_lent(),
-        Call::Verdict(_) => no_lent(),
-    }
-}
-
-fn no_lent() -> ! {
-    unreachable!("readers, hash and verdict need nothing lent")
 }

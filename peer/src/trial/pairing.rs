@@ -10,6 +10,8 @@ use std::time::{Duration, Instant};
 
 /// At most so many differences and faults are printed in full.
 const PRINTED: u64 = 10;
+/// Texts of calls and answers are cut after so many characters; the seed gives them whole.
+const LONGEST_TEXT: usize = 4_000;
 
 /// How often each number was answered.
 pub type Numbers = BTreeMap<Refusal, u64>;
@@ -128,7 +130,7 @@ impl<'a> Pairing<'a> {
         println!("DIFFERENCE (seed {}, call {}): {}", self.seed, self.calls_of_seed(), brief(call));
         println!("  before: {} area {}", record(before), before.area.len());
         for (party, (reply, after)) in [(self.first, first), (self.second, second)] {
-            println!("  {}: {}", party.name(), shortened(&format!("{reply:?}"), 600));
+            println!("  {}: {}", party.name(), shortened(&hex_lists(&format!("{reply:?}"))));
             println!("    after: {}", record(after));
         }
         println!("  {}", first_other_place(first.1, second.1));
@@ -147,7 +149,7 @@ impl<'a> Pairing<'a> {
 
 /// The call's text, shortened where arguments are long.
 pub fn brief(call: &Call) -> String {
-    shortened(&hex_lists(&format!("{call:?}")), 1_500)
+    shortened(&hex_lists(&format!("{call:?}")))
 }
 
 /// Number lists of the debug form as hexadecimal strings, which are easier to read and to use again.
@@ -172,8 +174,8 @@ fn hex_lists(text: &str) -> String {
     out + rest
 }
 
-fn shortened(text: &str, most: usize) -> String {
-    match text.char_indices().nth(most) {
+fn shortened(text: &str) -> String {
+    match text.char_indices().nth(LONGEST_TEXT) {
         Some((end, _)) => format!("{}… ({} bytes of text)", &text[..end], text.len()),
         None => text.to_string(),
     }
