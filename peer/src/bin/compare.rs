@@ -29,7 +29,7 @@ fn main() -> ExitCode {
         return ExitCode::from(2);
     };
     let Some(second) = party(&order.against) else {
-        eprintln!("no party is named {}", order.against);
+        eprintln!("no party is named {} here\n{USAGE}", order.against);
         return ExitCode::from(2);
     };
     println!("peer against {}", second.name());
