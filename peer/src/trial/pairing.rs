@@ -192,7 +192,7 @@ fn first_other_place(first: &Lent, second: &Lent) -> String {
         return "the heads differ".to_string();
     }
     if let Some(row) = first.table.iter().zip(&second.table).position(|(a, b)| a != b) {
-        return format!("row {row} differs: {:?} and {:?}", first.table[row], second.table[row]);
+        return hex_lists(&format!("row {row} differs: {:?} and {:?}", first.table[row], second.table[row]));
     }
     if let Some(byte) = first.area.iter().zip(&second.area).position(|(a, b)| a != b) {
         return format!("area byte {byte} differs: {} and {}", first.area[byte], second.area[byte]);
