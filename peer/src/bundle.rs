@@ -4,6 +4,7 @@ use crate::marks::{good_positions, other_bits_are_zero};
 use crate::refusals::{Refusal, LIST_BROKEN};
 use crate::roll::{self, Roll, BLOCK};
 use crate::row::{appended, Row};
+use crate::rules::Rules;
 
 /// "At most 65,536 bytes"
 pub const LONGEST: usize = 65_536;
@@ -53,21 +54,21 @@ impl<'a> Rest<'a> {
     }
 }
 
-/// The layout of the complete bundle, before any roll in it is looked at (reading C14).
-/// `rows` is the row count of this keeper's own roll (reading C16).
-pub fn read(bytes: &[u8], previous_size: u8, own_size: u8, rows: u8) -> Result<Bundle<'_>, Refusal> {
+/// The layout of the complete bundle, before any roll in it is looked at (reading C14), for the sizes of the previous and
+/// own rack. `rows` is the row count of this keeper's own roll (reading C16).
+pub fn read<'a>(rules: &dyn Rules, bytes: &'a [u8], sizes: (u8, u8), rows: u8) -> Result<Bundle<'a>, Refusal> {
     let bundle = read_lists(bytes, rows)?;
     // "Positions strictly rise within each list and lie below the rack's size."
     let old: Vec<u8> = bundle.old.iter().map(|entry| entry.position).collect();
     let new: Vec<u8> = bundle.new.iter().map(|entry| entry.position).collect();
-    if !good_positions(&old, previous_size) || !good_positions(&new, own_size) {
+    if !good_positions(rules, &old, sizes.0) || !good_positions(rules, &new, sizes.1) {
         return Err(LIST_BROKEN);
     }
     Ok(bundle)
 }
 
 /// All of the layout but the positions.
-pub fn read_lists(bytes: &[u8], rows: u8) -> Result<Bundle<'_>, Refusal> {
+fn read_lists(bytes: &[u8], rows: u8) -> Result<Bundle<'_>, Refusal> {
     if bytes.len() > LONGEST {
         return Err(LIST_BROKEN);
     }

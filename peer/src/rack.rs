@@ -1,4 +1,4 @@
-//! This file holds the rack: its layout, its digest and its majority.
+//! This file holds the rack: its layout and its digest.
 
 use crate::refusals::{Refusal, AREA_TOO_SHORT, RACK_BROKEN};
 use crate::sha256::digest_of;
@@ -74,9 +74,4 @@ fn strictly_rising(keys: &[[u8; 32]]) -> bool {
 /// "Rack digest = SHA-256 of 0x03 then the rack."
 pub fn digest(bytes: &[u8]) -> [u8; 32] {
     digest_of(&[&[0x03], bytes])
-}
-
-/// "Majority = n div 2, plus 1."
-pub fn majority(count: u8) -> u8 {
-    count / 2 + 1
 }

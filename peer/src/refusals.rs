@@ -1,7 +1,7 @@
 //! This file holds the refusal numbers of 01's table, each with 01's meaning.
 
 /// A refusal is 01's number; 0 is acceptance and never stands as a refusal.
-pub type Refusal = u8;
+pub type Refusal = u32;
 
 /// "output area shorter than the number above"
 pub const AREA_TOO_SHORT: Refusal = 1;

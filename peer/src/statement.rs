@@ -17,13 +17,13 @@ pub struct Statement {
     pub kind: u8,
     pub identity: [u8; 32],
     pub own: [u8; 32],
-    pub previous: [u8; 32],
-    pub next: [u8; 32],
+    /// The next rack's digest in finalise, the previous one's in initialise.
+    pub other: [u8; 32],
     pub roll: [u8; 32],
     pub label: [u8; 16],
     pub tail: [u8; 32],
-    pub height: u64,
     pub nonce: [u8; 16],
+    pub height: u64,
 }
 
 impl Statement {
@@ -31,13 +31,12 @@ impl Statement {
         kind: 0,
         identity: [0; 32],
         own: [0; 32],
-        previous: [0; 32],
-        next: [0; 32],
+        other: [0; 32],
         roll: [0; 32],
         label: [0; 16],
         tail: [0; 32],
-        height: 0,
         nonce: [0; 16],
+        height: 0,
     };
 }
 
@@ -74,12 +73,12 @@ fn taken_apart(kind: u8, mut rest: &[u8]) -> Statement {
         // "4 finalise: own rack digest, next rack digest, roll digest."
         KIND_FINALISE => {
             take(&mut rest, &mut statement.own);
-            take(&mut rest, &mut statement.next);
+            take(&mut rest, &mut statement.other);
             take(&mut rest, &mut statement.roll);
         }
         // "5 initialise: previous rack digest (zeros when founding), own rack digest, roll digest."
         KIND_INITIALISE => {
-            take(&mut rest, &mut statement.previous);
+            take(&mut rest, &mut statement.other);
             take(&mut rest, &mut statement.own);
             take(&mut rest, &mut statement.roll);
         }
@@ -139,8 +138,7 @@ pub fn write(statement: &Statement, area: &mut [u8]) -> Result<usize, Refusal> {
 fn unused_places_are_zero(statement: &Statement) -> bool {
     let mut rest = Statement { kind: 0, identity: [0; 32], own: [0; 32], ..*statement };
     match statement.kind {
-        KIND_FINALISE => rest = Statement { next: [0; 32], roll: [0; 32], ..rest },
-        KIND_INITIALISE => rest = Statement { previous: [0; 32], roll: [0; 32], ..rest },
+        KIND_FINALISE | KIND_INITIALISE => rest = Statement { other: [0; 32], roll: [0; 32], ..rest },
         _ => rest = Statement { label: [0; 16], tail: [0; 32], height: 0, ..rest },
     }
     if statement.kind == KIND_READ {
@@ -155,8 +153,8 @@ pub fn bytes(statement: &Statement) -> Vec<u8> {
     let head: [&[u8]; 2] = [&[s.kind], &s.identity];
     let height = s.height.to_be_bytes();
     let parts: Vec<&[u8]> = match s.kind {
-        KIND_FINALISE => vec![&s.own, &s.next, &s.roll],
-        KIND_INITIALISE => vec![&s.previous, &s.own, &s.roll],
+        KIND_FINALISE => vec![&s.own, &s.other, &s.roll],
+        KIND_INITIALISE => vec![&s.other, &s.own, &s.roll],
         KIND_READ => vec![&s.own, &s.label, &s.tail, &height, &s.nonce],
         _ => vec![&s.own, &s.label, &s.tail, &height],
     };

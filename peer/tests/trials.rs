@@ -1,6 +1,6 @@
 //! This file tests that the peer passes every trial, that each broken rule is caught, and that the comparison sees differences.
 
-use peer::broken::{Broken, Slip, SLIPS};
+use peer::broken::{Slip, SLIPS};
 use peer::party::{Party, Peer};
 use peer::trial::lists::LISTS;
 use peer::trial::pairing::Pairing;
@@ -38,7 +38,7 @@ fn every_refusal_of_every_call_is_met() {
     order::run(&mut pairing, &mut Prng::new(12));
     for ((name, list), met) in LISTS.iter().zip(pairing.tally.by_call) {
         for number in *list {
-            assert!(met[*number as usize] > 0, "{number} of {name} was never met");
+            assert!(met.contains_key(number), "{number} of {name} was never met");
         }
     }
 }
@@ -64,16 +64,15 @@ fn sound_rules_survive_hostile_histories() {
         history::run_any(&mut pairing, &mut prng);
     }
     assert_clean(&pairing);
-    let activated = pairing.tally.by_call[14][0];
-    let accepted = pairing.tally.by_call[16][0];
+    let activated = pairing.tally.by_call[14][&0];
+    let accepted = pairing.tally.by_call[16][&0];
     assert!(activated > 100 && accepted > 1_000, "{activated} activations, {accepted} accepted verdicts");
 }
 
 #[test]
 fn aimed_histories_catch_each_slip() {
     for slip in SLIPS {
-        let broken = Broken(slip);
-        let mut pairing = quiet(&broken, &broken, 15);
+        let mut pairing = quiet(&slip, &slip, 15);
         hostile::run(&mut pairing, &mut Prng::new(15));
         assert!(pairing.tally.faults > 0, "{slip:?} was not caught");
         println!("{slip:?}: {}", pairing.tally.first_fault.unwrap());
@@ -84,10 +83,9 @@ fn aimed_histories_catch_each_slip() {
 #[test]
 fn histories_by_chance_catch_each_slip() {
     for slip in SLIPS {
-        let broken = Broken(slip);
         let start = Instant::now();
         let mut prng = Prng::new(16);
-        let mut pairing = quiet(&broken, &broken, 16);
+        let mut pairing = quiet(&slip, &slip, 16);
         while pairing.tally.faults == 0 && pairing.tally.calls < 400_000 {
             history::run_any(&mut pairing, &mut prng);
         }
@@ -101,9 +99,7 @@ fn histories_by_chance_catch_each_slip() {
 #[test]
 fn aimed_histories_break_demand_3() {
     for slip in SLIPS.into_iter().filter(|slip| *slip != Slip::NonceIgnored) {
-        let broken = Broken(slip);
-        let mut pairing = Pairing::new(&broken, &broken, 17);
-        pairing.quiet = true;
+        let mut pairing = quiet(&slip, &slip, 17);
         hostile::run(&mut pairing, &mut Prng::new(17));
         assert!(pairing.tally.demand_3 > 0, "{slip:?} never broke demand 3");
     }
@@ -112,8 +108,7 @@ fn aimed_histories_break_demand_3() {
 #[test]
 fn comparison_sees_each_slip_as_a_difference() {
     for slip in SLIPS {
-        let broken = Broken(slip);
-        let mut pairing = quiet(&Peer, &broken, 18);
+        let mut pairing = quiet(&Peer, &slip, 18);
         let mut prng = Prng::new(18);
         numbers::run(&mut pairing, &mut prng);
         order::run(&mut pairing, &mut prng);

@@ -1,23 +1,24 @@
 //! This program runs the same calls on two parties and compares answer, head, table and output area in full.
 
-use peer::broken::{Broken, SLIPS};
+use peer::broken::SLIPS;
 use peer::party::{Party, Peer};
 use peer::trial::lists::LISTS;
-use peer::trial::pairing::Pairing;
+use peer::trial::pairing::{Numbers, Pairing};
 use peer::trial::prng::Prng;
 use peer::trial::{history, hostile, layouts, numbers, order, readings, records};
 use std::process::ExitCode;
 use std::time::Instant;
 
-const USAGE: &str = "usage: compare [SEED] [--calls N] [--against NAME]
+const USAGE: &str = "usage: compare [SEED ...] [--calls N] [--against NAME]
   SEED            a number; 1 if none is given
-  --calls N       go on by chance until N calls are compared (200000 if not given)
-  --against NAME  the second party: peer, or a broken one such as MajorityUp";
+  --calls N       with each seed go on by chance until N calls are compared (200000 if not given)
+  --against NAME  the second party: library (if not given; there if MAHQURITH_LIB named its folder at the build),
+                  peer, or a broken one such as MajorityUp";
 
 type Trial = fn(&mut Pairing, &mut Prng);
 
 struct Order {
-    seed: u64,
+    seeds: Vec<u64>,
     calls: u64,
     against: String,
 }
@@ -28,42 +29,51 @@ fn main() -> ExitCode {
         return ExitCode::from(2);
     };
     let Some(second) = party(&order.against) else {
-        eprintln!("no party is named {}", order.against);
+        eprintln!("no party is named {} here\n{USAGE}", order.against);
         return ExitCode::from(2);
     };
-    println!("seed {}: peer against {}", order.seed, second.name());
+    println!("peer against {}", second.name());
     let start = Instant::now();
-    let mut pairing = Pairing::new(&Peer, second.as_ref(), order.seed);
-    pairing.show_progress();
-    run_all(&mut pairing, &order);
+    let mut pairing = Pairing::new(&Peer, second.as_ref(), order.seeds[0]);
+    for seed in &order.seeds {
+        pairing.begin(*seed);
+        println!("seed {seed}");
+        let mut prng = Prng::new(*seed);
+        run_fixed(&mut pairing, &mut prng);
+        run_by_chance(&mut pairing, &mut prng, order.calls);
+    }
     close(&pairing, start)
 }
 
 fn read_order() -> Option<Order> {
-    let mut order = Order { seed: 1, calls: 200_000, against: "peer".to_string() };
+    let mut order = Order { seeds: Vec::new(), calls: 200_000, against: "library".to_string() };
     let mut words = std::env::args().skip(1);
     while let Some(word) = words.next() {
         match word.as_str() {
             "--calls" => order.calls = words.next()?.parse().ok()?,
             "--against" => order.against = words.next()?,
-            seed => order.seed = seed.parse().ok()?,
+            seed => order.seeds.push(seed.parse().ok()?),
         }
+    }
+    if order.seeds.is_empty() {
+        order.seeds.push(1);
     }
     Some(order)
 }
 
-/// The parties by name; the library behind its C interface will be added here.
 fn party(name: &str) -> Option<Box<dyn Party>> {
-    if name == "peer" {
-        return Some(Box::new(Peer));
+    match name {
+        "peer" => Some(Box::new(Peer)),
+        #[cfg(library)]
+        "library" => Some(Box::new(peer::library::Library)),
+        _ => {
+            let slip = SLIPS.into_iter().find(|slip| format!("{slip:?}") == name)?;
+            Some(Box::new(slip))
+        }
     }
-    let slip = SLIPS.into_iter().find(|slip| format!("{slip:?}") == name)?;
-    Some(Box::new(Broken(slip)))
 }
 
-/// The fixed trials once, then trials by chance until the number of calls is reached.
-fn run_all(pairing: &mut Pairing, order: &Order) {
-    let mut prng = Prng::new(order.seed);
+fn run_fixed(pairing: &mut Pairing, prng: &mut Prng) {
     let fixed: [(&str, Trial); 5] = [
         ("numbers to try", numbers::run),
         ("readings", readings::run),
@@ -73,10 +83,13 @@ fn run_all(pairing: &mut Pairing, order: &Order) {
     ];
     for (name, run) in fixed {
         let before = pairing.tally.calls;
-        run(pairing, &mut prng);
+        run(pairing, prng);
         println!("{name}: {} calls", pairing.tally.calls - before);
     }
-    // A history makes hundreds of calls, so the others get more turns.
+}
+
+/// Goes on until so many calls are made with this seed. A history makes hundreds of calls, so the others get more turns.
+fn run_by_chance(pairing: &mut Pairing, prng: &mut Prng, calls: u64) {
     let by_chance: [(&str, usize, Trial); 4] = [
         ("order", 60, order::run_any),
         ("records", 30, records::run_any),
@@ -84,11 +97,11 @@ fn run_all(pairing: &mut Pairing, order: &Order) {
         ("histories", 1, history::run_any),
     ];
     let mut made = [0; 4];
-    while pairing.tally.calls < order.calls {
+    while pairing.calls_of_seed() < calls {
         for ((_, turns, run), count) in by_chance.iter().zip(&mut made) {
             let before = pairing.tally.calls;
             for _ in 0..*turns {
-                run(pairing, &mut prng);
+                run(pairing, prng);
             }
             *count += pairing.tally.calls - before;
         }
@@ -101,27 +114,26 @@ fn run_all(pairing: &mut Pairing, order: &Order) {
 /// The closing lines; any difference, any fault and any number never met make the run fail.
 fn close(pairing: &Pairing, start: Instant) -> ExitCode {
     let tally = &pairing.tally;
-    let mut never: Vec<String> = (0..=25).filter(|n| tally.by_number[*n] == 0).map(|n| n.to_string()).collect();
+    let mut never: Vec<String> =
+        (0..=25).filter(|number| !tally.by_number.contains_key(number)).map(|number| number.to_string()).collect();
     for ((name, list), numbers) in LISTS.iter().zip(&tally.by_call) {
         println!("{name}: {}", counts(numbers));
-        let missing = list.iter().filter(|number| numbers[**number as usize] == 0);
+        let missing = [&0].into_iter().chain(*list).filter(|number| !numbers.contains_key(number));
         never.extend(missing.map(|number| format!("{number} of {name}")));
     }
     let seconds = start.elapsed().as_secs_f64();
-    println!("answers by number {}", counts(&tally.by_number));
     println!("never met: {}", if never.is_empty() { "none".to_string() } else { never.join(", ") });
     println!("calls {} in {seconds:.1} s ({:.0} a minute)", tally.calls, tally.calls as f64 / seconds * 60.0);
+    println!("answers by number {}", counts(&tally.by_number));
     println!("differences {} faults {}", tally.differences, tally.faults);
-    let good = tally.differences == 0 && tally.faults == 0 && never.is_empty();
-    println!("{} (seed {})", if good { "AGREED" } else { "FAILED" }, pairing.seed);
-    if good {
-        ExitCode::SUCCESS
-    } else {
-        ExitCode::FAILURE
+    if tally.differences == 0 && tally.faults == 0 && never.is_empty() {
+        println!("AGREED");
+        return ExitCode::SUCCESS;
     }
+    println!("FAILED");
+    ExitCode::FAILURE
 }
 
-fn counts(numbers: &[u64; 256]) -> String {
-    let met = (0..256).filter(|number| numbers[*number] > 0);
-    met.map(|number| format!("{number}:{}", numbers[number])).collect::<Vec<_>>().join(" ")
+fn counts(numbers: &Numbers) -> String {
+    numbers.iter().map(|(number, count)| format!("{number}:{count}")).collect::<Vec<_>>().join(" ")
 }

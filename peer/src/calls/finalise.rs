@@ -1,39 +1,36 @@
 //! This file holds Finalise: "Finalise (next rack; 3,713)".
 
-use super::{ask_area, ask_sound, put, settled, used, Answer, Tried};
+use super::{ask_area, ask_sound, put, Tried};
+use crate::call::{Answer, Lent};
 use crate::rack;
-use crate::record::{Head, ACTIVE, FINALISED};
+use crate::record::{ACTIVE, FINALISED};
 use crate::refusals::NOT_ACTIVE;
 use crate::roll;
 use crate::row::Row;
 use crate::statement::{self, Statement, KIND_FINALISE};
 
-pub fn finalise(head: &mut Head, table: &mut [Row], next: &[u8], area: &mut [u8]) -> Answer {
-    settled(try_finalise(head, table, next, area))
-}
-
-fn try_finalise(head: &mut Head, table: &[Row], next: &[u8], area: &mut [u8]) -> Tried {
+pub fn finalise(lent: &mut Lent, next: &[u8]) -> Tried {
     // "1, 2; if already finalised, …; then 4, 6"
-    ask_area(area, 3_713)?;
-    ask_sound(head, table)?;
+    ask_area(lent, 3_713)?;
+    ask_sound(lent)?;
     // "if already finalised, the earlier statement and roll again, the argument not read, marked as a repeat with nothing to sign"
-    if head.status == FINALISED {
-        return Ok(Answer { repeat: true, ..put(area, &last_words(head, table)) });
+    if lent.head.status == FINALISED {
+        return Ok(Answer { repeat: true, ..put_last_words(lent) });
     }
-    if head.status != ACTIVE {
+    if lent.head.status != ACTIVE {
         return Err(NOT_ACTIVE.into());
     }
     rack::read(next)?;
-    head.next = rack::digest(next);
-    head.status = FINALISED;
-    Ok(put(area, &last_words(head, table)))
+    lent.head.next = rack::digest(next);
+    lent.head.status = FINALISED;
+    Ok(put_last_words(lent))
 }
 
 /// "Gives the statement, then the roll blocks"
-fn last_words(head: &Head, table: &[Row]) -> Vec<u8> {
-    let rows = used(head, table);
-    let statement = finalise_statement(&head.identity, &head.own, &head.next, rows);
-    [statement, roll::in_blocks(rows)].concat()
+fn put_last_words(lent: &mut Lent) -> Answer {
+    let statement = finalise_statement(&lent.head.identity, &lent.head.own, &lent.head.next, lent.used());
+    let words = [statement, roll::in_blocks(lent.used())].concat();
+    put(lent, &words)
 }
 
 /// "4 finalise: own rack digest, next rack digest, roll digest."
@@ -42,7 +39,7 @@ pub(super) fn finalise_statement(identity: &[u8; 32], own: &[u8; 32], next: &[u8
         kind: KIND_FINALISE,
         identity: *identity,
         own: *own,
-        next: *next,
+        other: *next,
         roll: roll::digest(rows),
         ..Statement::ZERO
     })

@@ -2,11 +2,12 @@
 
 use super::ask_sound;
 use crate::bundle::{self, Bundle};
+use crate::call::{Lent, Papers};
 use crate::rack::{self, Rack};
-use crate::record::{Head, PREPARED};
+use crate::record::PREPARED;
 use crate::refusals::{Refusal, NOT_PREPARED, OTHER_RACK};
 use crate::roll::Roll;
-use crate::row::Row;
+use crate::rules::Rules;
 
 pub struct Handover<'a> {
     pub previous: Rack,
@@ -17,24 +18,19 @@ pub struct Handover<'a> {
 }
 
 /// "2, 5, 6 (previous, then own), 21, 22, 15"
-pub fn open_handover<'a>(
-    head: &Head,
-    table: &[Row],
-    previous: &[u8],
-    own: &[u8],
-    bundle: &'a [u8],
-) -> Result<Handover<'a>, Refusal> {
-    ask_sound(head, table)?;
+pub fn open_handover<'a>(rules: &dyn Rules, lent: &Lent, papers: &'a Papers) -> Result<Handover<'a>, Refusal> {
+    ask_sound(lent)?;
+    let head = &lent.head;
     if head.status != PREPARED {
         return Err(NOT_PREPARED);
     }
-    let previous_rack = rack::read(previous)?;
-    let own_rack = rack::read(own)?;
+    let previous = rack::read(&papers.previous)?;
+    let own = rack::read(&papers.own)?;
     // 21: "rack digest differs from the record's"; both are looked at after both passed 6 (reading C13).
-    if rack::digest(previous) != head.previous || rack::digest(own) != head.own {
+    if rack::digest(&papers.previous) != head.previous || rack::digest(&papers.own) != head.own {
         return Err(OTHER_RACK);
     }
-    let bundle = bundle::read(bundle, previous_rack.count, own_rack.count, head.count)?;
+    let bundle = bundle::read(rules, &papers.bundle, (previous.count, own.count), head.count)?;
     let rolls = bundle::old_rolls(&bundle)?;
-    Ok(Handover { previous: previous_rack, own: own_rack, bundle, rolls })
+    Ok(Handover { previous, own, bundle, rolls })
 }

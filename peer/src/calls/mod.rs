@@ -1,4 +1,4 @@
-//! This folder holds the keeper's calls, one file each; this file holds their answer and what several of them share.
+//! This folder holds the keeper's calls, one file each; this file holds what several of them share.
 
 mod activate;
 mod append;
@@ -11,100 +11,58 @@ mod new;
 mod read;
 mod wake;
 
-pub use activate::{activate, test_marks};
+pub use activate::activate;
 pub use append::append;
 pub use append_and_read::append_and_read;
 pub use bytes_to_check::bytes_to_check;
 pub use finalise::finalise;
-pub use handover::{open_handover, Handover};
 pub use initialise::initialise;
 pub use new::new;
 pub use read::read;
 pub use wake::wake;
 
+use crate::call::{Answer, Lent};
 use crate::record::{is_sound, Head, ACTIVE};
-use crate::refusals::{Refusal, AREA_TOO_SHORT, NOT_ACTIVE, NOT_SOUND, OUT_OF_ORDER};
+use crate::refusals::{Refusal, AREA_TOO_SHORT, NOT_ACTIVE, NOT_SOUND};
 use crate::row::Row;
 use crate::statement::{self, Statement, KIND_READ};
 
-/// "On acceptance a call returns 0 and the number of bytes written" … "A refusal returns its number (11 also the height)"
-/// … "Result fields not named for an answer are zero."
-#[repr(C)]
-#[derive(Clone, Copy, PartialEq, Eq, Debug, Default)]
-pub struct Answer {
-    pub number: u8,
-    pub written: u64,
-    pub height: u64,
-    /// "marked as a repeat with nothing to sign"
-    pub repeat: bool,
-}
-
-impl Answer {
-    pub fn accepted(written: usize) -> Answer {
-        Answer { written: written as u64, ..Answer::default() }
-    }
-
-    pub fn refused(number: Refusal) -> Answer {
-        Answer { number, ..Answer::default() }
-    }
-
-    /// 11: "out of order; the present height is given"
-    pub fn out_of_order(height: u64) -> Answer {
-        Answer { height, ..Answer::refused(OUT_OF_ORDER) }
-    }
-}
-
-impl From<Refusal> for Answer {
-    fn from(number: Refusal) -> Answer {
-        Answer::refused(number)
-    }
-}
-
 /// A call's way to its answer: `Err` is a refusal, met before anything lent was changed.
-pub(crate) type Tried = Result<Answer, Answer>;
-
-pub(crate) fn settled(tried: Tried) -> Answer {
-    tried.unwrap_or_else(|refusal| refusal)
-}
+pub type Tried = Result<Answer, Answer>;
 
 /// The label's row among the ledgers of a sound record.
-pub(crate) fn find(head: &Head, table: &[Row], label: &[u8; 16]) -> Option<usize> {
-    used(head, table).iter().position(|row| row.label == *label)
-}
-
-/// The rows that the head counts, of a sound record.
-pub(crate) fn used<'a>(head: &Head, table: &'a [Row]) -> &'a [Row] {
-    &table[..head.count as usize]
+fn find(lent: &Lent, label: &[u8; 16]) -> Option<usize> {
+    lent.used().iter().position(|row| row.label == *label)
 }
 
 /// 1: "output area shorter than the number above" — a fixed number for each call, not the need (reading C1).
-pub(crate) fn ask_area(area: &[u8], number_above: usize) -> Result<(), Refusal> {
-    if area.len() < number_above {
+fn ask_area(lent: &Lent, number_above: usize) -> Result<(), Refusal> {
+    if lent.area.len() < number_above {
         return Err(AREA_TOO_SHORT);
     }
     Ok(())
 }
 
 /// 2: "record not sound"
-pub(crate) fn ask_sound(head: &Head, table: &[Row]) -> Result<(), Refusal> {
-    if !is_sound(head, table) {
+fn ask_sound(lent: &Lent) -> Result<(), Refusal> {
+    if !is_sound(&lent.head, &lent.table) {
         return Err(NOT_SOUND);
     }
     Ok(())
 }
 
 /// The beginning of New, Append, Read and Append and read: "1, 2, 4".
-pub(crate) fn ask_active(head: &Head, table: &[Row], area: &[u8], number_above: usize) -> Result<(), Refusal> {
-    ask_area(area, number_above)?;
-    ask_sound(head, table)?;
-    if head.status != ACTIVE {
+fn ask_active(lent: &Lent, number_above: usize) -> Result<(), Refusal> {
+    ask_area(lent, number_above)?;
+    ask_sound(lent)?;
+    if lent.head.status != ACTIVE {
         return Err(NOT_ACTIVE);
     }
     Ok(())
 }
 
 /// The new, append or read statement about a row of this keeper.
-pub(crate) fn row_statement(head: &Head, kind: u8, row: &Row, nonce: &[u8; 16]) -> Vec<u8> {
+fn row_statement(head: &Head, kind: u8, row: &Row, nonce: &[u8; 16]) -> Vec<u8> {
     let nonce = if kind == KIND_READ { *nonce } else { [0; 16] };
     statement::bytes(&Statement {
         kind,
@@ -119,7 +77,7 @@ pub(crate) fn row_statement(head: &Head, kind: u8, row: &Row, nonce: &[u8; 16]) 
 }
 
 /// "these are the first of the output area, and the rest of it stays"
-pub(crate) fn put(area: &mut [u8], bytes: &[u8]) -> Answer {
-    area[..bytes.len()].copy_from_slice(bytes);
+fn put(lent: &mut Lent, bytes: &[u8]) -> Answer {
+    lent.area[..bytes.len()].copy_from_slice(bytes);
     Answer::accepted(bytes.len())
 }

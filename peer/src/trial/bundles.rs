@@ -1,11 +1,11 @@
 //! This file holds the trial of handover bundles and signer lists, good, damaged in each field, and at each bound.
 
-use super::call::{AskVerdict, Call};
 use super::good;
 use super::layouts::some_statement;
 use super::pairing::Pairing;
 use super::prng::Prng;
 use super::scene::{any_sizes, OldPart, Scene, Sizes};
+use crate::call::{AskVerdict, Call};
 use crate::roll::{blocks, in_blocks};
 use crate::row::{appended, Row};
 use crate::statement::{self, Statement};
@@ -134,12 +134,12 @@ fn bundle_bytes(pairing: &mut Pairing, prng: &mut Prng) {
 }
 
 fn try_bundle(pairing: &mut Pairing, prng: &mut Prng, scene: &Scene, bundle: Vec<u8>) {
-    let (previous, own) = (scene.previous.clone(), scene.own.clone());
+    let papers = scene.papers(bundle);
     let call = if prng.chance(1, 2) {
-        Call::Activate { previous, own, bundle }
+        Call::Activate(papers)
     } else {
         let list = prng.below(2) as u8;
-        Call::BytesToCheck { previous, own, bundle, list, entry: prng.below(3) as u64 }
+        Call::BytesToCheck { papers, list, entry: prng.below(3) as u64 }
     };
     pairing.call(&mut scene.lent(129), &call);
 }

@@ -1,7 +1,7 @@
 //! This file holds makers of good keys, racks, rows, rolls, records and areas, from which the trials start.
 
-use super::call::Lent;
 use super::prng::Prng;
+use crate::call::Lent;
 use crate::rack;
 use crate::record::Head;
 use crate::roll::{Roll, MOST_ROWS};

@@ -1,10 +1,10 @@
 //! This file holds long histories by chance: foundings, lagging keepers, overlapping racks, competing handovers, repeats and verdicts.
 
-use super::call::Call;
 use super::good;
 use super::pairing::Pairing;
 use super::prng::Prng;
 use super::world::{key_at, part, Handed, World};
+use crate::call::Call;
 use crate::record::{ACTIVE, BLANK, FINALISED, PREPARED};
 use crate::roll::in_blocks;
 use crate::row::Row;

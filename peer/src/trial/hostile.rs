@@ -1,18 +1,18 @@
 //! This file holds hostile histories aimed at 01's slips; sound rules refuse at the decisive step, broken ones are caught.
 
-use super::call::Call;
 use super::good;
 use super::pairing::Pairing;
 use super::prng::Prng;
 use super::world::{part, World};
+use crate::call::Call;
 use crate::roll::in_blocks;
 use crate::row::Row;
 
 pub fn run(pairing: &mut Pairing, prng: &mut Prng) {
     two_halves(pairing, prng);
     one_signer_twice(pairing, prng);
-    one_old_entry_twice(pairing, prng);
-    unsigned_second_old_entry(pairing, prng);
+    one_finalised_of_three(pairing, prng, 0);
+    one_finalised_of_three(pairing, prng, 1);
     lagging_first_old_entry(pairing, prng);
     second_heir(pairing, prng, true);
     second_heir(pairing, prng, false);
@@ -111,23 +111,14 @@ fn rows_of(world: &World, keeper: usize) -> Vec<Row> {
     lent.table[..lent.head.count as usize].to_vec()
 }
 
-/// One old keeper's finalise listed twice as a majority of three.
-fn one_old_entry_twice(pairing: &mut Pairing, prng: &mut Prng) {
+/// Keeper 0 alone finalised, and its roll stands as well at a second position: its own, listed twice as a majority of three,
+/// or keeper 1's, who never signed it ("testing the first old entry only").
+fn one_finalised_of_three(pairing: &mut Pairing, prng: &mut Prng, second: u8) {
     let mut world = World::new(pairing, true);
     let (previous, own) = lagging(&mut world, prng);
     world.call(0, &Call::Finalise { next: own.clone() });
     let roll = rows_of(&world, 0);
-    inherit(&mut world, 3, (&previous, &own), &roll, &[(0, roll.clone()), (0, roll.clone())]);
-    contradict(&mut world, 3, SECOND);
-}
-
-/// "testing the first old entry only": the second entry was never signed.
-fn unsigned_second_old_entry(pairing: &mut Pairing, prng: &mut Prng) {
-    let mut world = World::new(pairing, true);
-    let (previous, own) = lagging(&mut world, prng);
-    world.call(0, &Call::Finalise { next: own.clone() });
-    let roll = rows_of(&world, 0);
-    inherit(&mut world, 3, (&previous, &own), &roll, &[(0, roll.clone()), (1, roll.clone())]);
+    inherit(&mut world, 3, (&previous, &own), &roll, &[(0, roll.clone()), (second, roll.clone())]);
     contradict(&mut world, 3, SECOND);
 }
 

@@ -1,10 +1,10 @@
 //! This file holds the trial of layouts: racks, rolls and statements, good, damaged in each field, and at each bound.
 
 use super::bundles;
-use super::call::{Call, Reply};
 use super::good;
 use super::pairing::Pairing;
 use super::prng::Prng;
+use crate::call::{Call, Reply};
 use crate::rack::Rack;
 use crate::roll::{in_blocks, Roll};
 use crate::row::TOP;
@@ -34,17 +34,19 @@ pub fn run_any(pairing: &mut Pairing, prng: &mut Prng) {
     }
 }
 
-fn read_rack(pairing: &mut Pairing, bytes: &[u8]) -> u8 {
+fn read_rack(pairing: &mut Pairing, bytes: &[u8]) {
     let reply = pairing.call(&mut good::only_area(0), &Call::ReadRack { bytes: bytes.to_vec() });
-    if let Reply::Rack(read) = &reply {
+    if let Reply::Rack(read) = reply {
         if read.number == 0 {
-            let rack = Rack { count: read.count, keys: read.keys };
-            let mut lent = good::only_area(bytes.len() + 2);
-            pairing.expect("writing what was read", &mut lent, &Call::WriteRack { rack }, 0);
-            pairing.ask(lent.area[..bytes.len()] == *bytes, "a rack read and written is the same");
+            write_again(pairing, Call::WriteRack { rack: read.rack }, bytes);
         }
     }
-    reply.number()
+}
+
+fn write_again(pairing: &mut Pairing, call: Call, bytes: &[u8]) {
+    let mut lent = good::only_area(bytes.len() + 2);
+    pairing.expect("writing what was read", &mut lent, &call, 0);
+    pairing.ask(lent.area[..bytes.len()] == *bytes, "what is read and written is the same");
 }
 
 fn racks(pairing: &mut Pairing, prng: &mut Prng, count: usize) {
@@ -94,10 +96,7 @@ fn read_roll(pairing: &mut Pairing, bytes: &[u8]) {
     let reply = pairing.call(&mut good::only_area(0), &Call::ReadRoll { bytes: bytes.to_vec() });
     if let Reply::Roll(read) = reply {
         if read.number == 0 {
-            let roll = Box::new(Roll { count: read.count, rows: read.rows });
-            let mut lent = good::only_area(bytes.len() + 2);
-            pairing.expect("writing what was read", &mut lent, &Call::WriteRoll { roll }, 0);
-            pairing.ask(lent.area[..bytes.len()] == *bytes, "a roll read and written is the same");
+            write_again(pairing, Call::WriteRoll { roll: Box::new(read.roll) }, bytes);
         }
     }
 }
@@ -183,10 +182,7 @@ fn read_statement(pairing: &mut Pairing, bytes: &[u8]) {
     let reply = pairing.call(&mut good::only_area(0), &Call::ReadStatement { bytes: bytes.to_vec() });
     if let Reply::Statement(read) = reply {
         if read.number == 0 {
-            let mut lent = good::only_area(bytes.len() + 2);
-            let call = Call::WriteStatement { statement: read.statement };
-            pairing.expect("writing what was read", &mut lent, &call, 0);
-            pairing.ask(lent.area[..bytes.len()] == *bytes, "a statement read and written is the same");
+            write_again(pairing, Call::WriteStatement { statement: read.statement }, bytes);
         }
     }
 }
@@ -195,8 +191,7 @@ fn read_statement(pairing: &mut Pairing, bytes: &[u8]) {
 pub fn some_statement(prng: &mut Prng, kind: u8, height: u64) -> Statement {
     let mut statement = Statement { kind, identity: prng.array(), own: prng.array(), ..Statement::ZERO };
     match kind {
-        4 => (statement.next, statement.roll) = (prng.array(), prng.array()),
-        5 => (statement.previous, statement.roll) = (prng.array(), prng.array()),
+        4 | 5 => (statement.other, statement.roll) = (prng.array(), prng.array()),
         _ => {
             statement.label = good::label(prng);
             statement.height = height;
@@ -239,8 +234,7 @@ fn written_statements(pairing: &mut Pairing, s: Statement) {
             Statement { kind: value, ..s },
             Statement { identity: long, ..s },
             Statement { own: long, ..s },
-            Statement { previous: long, ..s },
-            Statement { next: long, ..s },
+            Statement { other: long, ..s },
             Statement { roll: long, ..s },
             Statement { label: short, ..s },
             Statement { tail: long, ..s },

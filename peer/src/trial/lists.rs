@@ -1,9 +1,10 @@
 //! This file holds 01's list of refusals for each call, to which every answer is held.
 
-use super::call::Call;
+use crate::call::Call;
+use crate::refusals::Refusal;
 
 /// The call's name and the numbers that 01 lists for it, in 01's order.
-pub const LISTS: [(&str, &[u8]); 17] = [
+pub const LISTS: [(&str, &[Refusal]); 17] = [
     ("Hash", &[25]),
     ("Read rack", &[6]),
     ("Write rack", &[6, 1]),
@@ -44,7 +45,7 @@ pub fn place(call: &Call) -> usize {
         Call::Read { .. } => 11,
         Call::AppendAndRead { .. } => 12,
         Call::Finalise { .. } => 13,
-        Call::Activate { .. } => 14,
+        Call::Activate(_) => 14,
         Call::BytesToCheck { .. } => 15,
         Call::Verdict(_) => 16,
     }

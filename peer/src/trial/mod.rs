@@ -1,7 +1,6 @@
-//! This folder holds the trials: calls as data, the comparison of two parties, the makers of inputs and the histories.
+//! This folder holds the trials: the comparison of two parties, the makers of inputs and the histories.
 
 pub mod bundles;
-pub mod call;
 pub mod chip;
 pub mod good;
 pub mod history;

@@ -1,10 +1,10 @@
 //! This file holds 01's numbers to try, all of them, each as calls with the answer that 01 names.
 
-use super::call::{AskVerdict, Call, Lent, Reply};
 use super::good;
 use super::pairing::Pairing;
 use super::prng::Prng;
 use super::scene::{Scene, Sizes};
+use crate::call::{AskVerdict, Call, Lent, Reply};
 use crate::rack::Rack;
 use crate::record::{ACTIVE, FINALISED};
 use crate::row::{Row, TOP};

@@ -1,11 +1,12 @@
 //! This file holds the trial of 01's order: each refusal of each call alone, every two that one input can meet, and larger sets.
 
-use super::call::{Call, Lent};
 use super::order_calls;
 use super::order_desk;
 use super::order_handover;
 use super::pairing::Pairing;
 use super::prng::Prng;
+use crate::call::{Call, Lent};
+use crate::refusals::Refusal;
 
 /// The damages chosen for one input, by their names.
 pub struct Damages<'a>(pub &'a [&'static str]);
@@ -92,7 +93,7 @@ fn matches_name(name: &str, pattern: &str) -> bool {
 }
 
 /// The number with which a damage's name begins.
-fn number_of(name: &str) -> u8 {
+fn number_of(name: &str) -> Refusal {
     let digits: String = name.chars().take_while(char::is_ascii_digit).collect();
     digits.parse().expect("each damage begins with its number")
 }

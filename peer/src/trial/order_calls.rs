@@ -1,9 +1,9 @@
 //! This file holds the refusals, in 01's order, of all calls but the handover's and the verdict, with the inputs that meet them.
 
-use super::call::{Call, Lent};
 use super::good;
 use super::order::{Case, Damages, Plan};
 use super::prng::Prng;
+use crate::call::{Call, Lent};
 use crate::rack::Rack;
 use crate::record::{ACTIVE, BLANK, FINALISED, PREPARED};
 use crate::roll::in_blocks;

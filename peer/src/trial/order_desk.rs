@@ -1,10 +1,10 @@
 //! This file holds the refusals of the verdict, in 01's order, with the inputs that meet them.
 
-use super::call::{AskVerdict, Call};
 use super::good;
 use super::order::{Case, Damages, Plan};
 use super::order_calls::{case, some_statement, spoil_rack, RACK_DAMAGES};
 use super::prng::Prng;
+use crate::call::{AskVerdict, Call};
 use crate::row::TOP;
 use crate::statement::{self, Statement, KIND_APPEND, KIND_NEW, KIND_READ};
 
@@ -28,16 +28,6 @@ const VERDICT: &[&[&str]] = &[
     RACK_DAMAGES,
     SIGNERS,
     OTHER_STATEMENTS,
-    &["16"],
-    &["17 signer 0", "17 signer 0 valid"],
-    &["18 signer 0"],
-    &["17 signer 1"],
-    &["18 signer 1"],
-];
-const VERDICT_OF_READ: &[&[&str]] = &[
-    RACK_DAMAGES,
-    SIGNERS,
-    OTHER_STATEMENTS,
     &["24 first", "24 last"],
     &["16"],
     &["17 signer 0", "17 signer 0 valid"],
@@ -47,15 +37,13 @@ const VERDICT_OF_READ: &[&[&str]] = &[
 ];
 
 pub fn plans() -> Vec<Plan> {
+    // "The nonce counts for kind 3 only": with the others there is no 24.
+    const NO_24: &[(&str, &str)] = &[("24*", "24*")];
     vec![
-        verdict_plan("Verdict of a new", verdict_of_new),
-        verdict_plan("Verdict of an append", verdict_of_append),
-        Plan { steps: VERDICT_OF_READ, ..verdict_plan("Verdict of a read", verdict_of_read) },
+        Plan { name: "Verdict of a new", steps: VERDICT, apart: NO_24, build: verdict_of_new },
+        Plan { name: "Verdict of an append", steps: VERDICT, apart: NO_24, build: verdict_of_append },
+        Plan { name: "Verdict of a read", steps: VERDICT, apart: &[], build: verdict_of_read },
     ]
-}
-
-fn verdict_plan(name: &'static str, build: fn(&mut Prng, &Damages) -> Case) -> Plan {
-    Plan { name, steps: VERDICT, apart: &[], build }
 }
 
 fn verdict_of_new(prng: &mut Prng, damages: &Damages) -> Case {

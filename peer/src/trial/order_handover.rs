@@ -1,11 +1,11 @@
 //! This file holds the refusals of Activate and Bytes to check, in 01's order, with the inputs that meet them.
 
-use super::call::Lent;
 use super::good;
 use super::order::{Case, Damages, Plan};
 use super::order_calls::{area, spoil, spoil_rack, UNSOUND};
 use super::prng::Prng;
 use super::scene::{Scene, Sizes};
+use crate::call::Lent;
 use crate::record::{ACTIVE, BLANK, FINALISED};
 use crate::roll::in_blocks;
 use crate::row::{appended, Row};

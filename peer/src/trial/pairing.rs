@@ -1,19 +1,27 @@
 //! This file holds the comparison: one call on two parties over copies of the same data, and the tally of all of them.
 
-use super::call::{perform, Call, Lent, Reply};
 use super::lists::{place, FIRST_ON_RECORD, LAST_ON_RECORD, LISTS};
+use crate::call::{Call, Lent, Reply};
 use crate::party::Party;
 use crate::record::is_sound;
+use crate::refusals::Refusal;
+use std::collections::BTreeMap;
 use std::time::{Duration, Instant};
 
 /// At most so many differences and faults are printed in full.
 const PRINTED: u64 = 10;
+/// Texts of calls and answers are cut after so many characters; the seed gives them whole.
+const LONGEST_TEXT: usize = 4_000;
 
+/// How often each number was answered.
+pub type Numbers = BTreeMap<Refusal, u64>;
+
+#[derive(Default)]
 pub struct Tally {
     pub calls: u64,
-    pub by_number: [u64; 256],
+    pub by_number: Numbers,
     /// The same for each call, in the order of the lists.
-    pub by_call: [[u64; 256]; LISTS.len()],
+    pub by_call: [Numbers; LISTS.len()],
     pub differences: u64,
     /// Properties of 01 that an answer broke, or numbers other than 01's order gives.
     pub faults: u64,
@@ -29,28 +37,33 @@ pub struct Pairing<'a> {
     pub tally: Tally,
     /// Tests of broken rules print nothing.
     pub quiet: bool,
-    progress: Option<Instant>,
+    /// The calls made before this seed's first.
+    before_seed: u64,
+    told: Instant,
 }
 
 impl<'a> Pairing<'a> {
     pub fn new(first: &'a dyn Party, second: &'a dyn Party, seed: u64) -> Pairing<'a> {
-        let by_call = [[0; 256]; LISTS.len()];
-        let (by_number, first_fault) = ([0; 256], None);
-        let tally = Tally { calls: 0, by_number, by_call, differences: 0, faults: 0, demand_3: 0, first_fault };
-        Pairing { first, second, seed, tally, quiet: false, progress: None }
+        let tally = Tally::default();
+        Pairing { first, second, seed, tally, quiet: false, before_seed: 0, told: Instant::now() }
     }
 
-    /// From now on a line each ten seconds.
-    pub fn show_progress(&mut self) {
-        self.progress = Some(Instant::now());
+    /// From now on the calls are this seed's.
+    pub fn begin(&mut self, seed: u64) {
+        (self.seed, self.before_seed) = (seed, self.tally.calls);
+    }
+
+    /// The calls made with the present seed.
+    pub fn calls_of_seed(&self) -> u64 {
+        self.tally.calls - self.before_seed
     }
 
     /// Runs the call on both parties; what is lent goes on as the first left it.
     pub fn call(&mut self, lent: &mut Lent, call: &Call) -> Reply {
         let before = lent.clone();
         let mut other = lent.clone();
-        let reply = perform(self.first, lent, call);
-        let other_reply = perform(self.second, &mut other, call);
+        let reply = self.first.perform(lent, call);
+        let other_reply = self.second.perform(&mut other, call);
         self.count(call, reply.number());
         if reply != other_reply || *lent != other {
             self.tally.differences += 1;
@@ -62,10 +75,10 @@ impl<'a> Pairing<'a> {
     }
 
     /// Counts the answer; a number that 01 doesn't list for the call is a fault.
-    fn count(&mut self, call: &Call, number: u8) {
+    fn count(&mut self, call: &Call, number: Refusal) {
         self.tally.calls += 1;
-        self.tally.by_number[number as usize] += 1;
-        self.tally.by_call[place(call)][number as usize] += 1;
+        *self.tally.by_number.entry(number).or_default() += 1;
+        *self.tally.by_call[place(call)].entry(number).or_default() += 1;
         let (name, list) = LISTS[place(call)];
         if number != 0 && !list.contains(&number) {
             self.fault(format!("{name} answered {number}, which 01 doesn't list for it; call {}", brief(call)));
@@ -73,7 +86,7 @@ impl<'a> Pairing<'a> {
     }
 
     /// A call for which 01 names the number; another one is a fault even if both parties agree.
-    pub fn expect(&mut self, what: &str, lent: &mut Lent, call: &Call, number: u8) -> Reply {
+    pub fn expect(&mut self, what: &str, lent: &mut Lent, call: &Call, number: Refusal) -> Reply {
         let reply = self.call(lent, call);
         if reply.number() != number {
             self.fault(format!("{what}: 01 gives {number}, the answer is {}; call {}", reply.number(), brief(call)));
@@ -114,31 +127,29 @@ impl<'a> Pairing<'a> {
         if self.quiet || self.tally.differences > PRINTED {
             return;
         }
-        println!("DIFFERENCE (seed {}, call {}): {}", self.seed, self.tally.calls, brief(call));
+        println!("DIFFERENCE (seed {}, call {}): {}", self.seed, self.calls_of_seed(), brief(call));
         println!("  before: {} area {}", record(before), before.area.len());
         for (party, (reply, after)) in [(self.first, first), (self.second, second)] {
-            println!("  {}: {}", party.name(), shortened(&format!("{reply:?}"), 600));
+            println!("  {}: {}", party.name(), shortened(&hex_lists(&format!("{reply:?}"))));
             println!("    after: {}", record(after));
         }
         println!("  {}", first_other_place(first.1, second.1));
     }
 
+    /// A line each ten seconds.
     fn tell_progress(&mut self) {
-        if let Some(told) = self.progress {
-            if self.tally.calls % 256 == 0 && told.elapsed() >= Duration::from_secs(10) {
-                println!(
-                    "… {} calls, {} differences, {} faults",
-                    self.tally.calls, self.tally.differences, self.tally.faults
-                );
-                self.progress = Some(Instant::now());
-            }
+        let Tally { calls, differences, faults, .. } = self.tally;
+        if !self.quiet && calls % 256 == 0 && self.told.elapsed() >= Duration::from_secs(10) {
+            let (seed, of_seed) = (self.seed, self.calls_of_seed());
+            println!("… seed {seed}, call {of_seed}; {calls} calls, {differences} differences, {faults} faults");
+            self.told = Instant::now();
         }
     }
 }
 
 /// The call's text, shortened where arguments are long.
 pub fn brief(call: &Call) -> String {
-    shortened(&hex_lists(&format!("{call:?}")), 1_500)
+    shortened(&hex_lists(&format!("{call:?}")))
 }
 
 /// Number lists of the debug form as hexadecimal strings, which are easier to read and to use again.
@@ -163,8 +174,8 @@ fn hex_lists(text: &str) -> String {
     out + rest
 }
 
-fn shortened(text: &str, most: usize) -> String {
-    match text.char_indices().nth(most) {
+fn shortened(text: &str) -> String {
+    match text.char_indices().nth(LONGEST_TEXT) {
         Some((end, _)) => format!("{}… ({} bytes of text)", &text[..end], text.len()),
         None => text.to_string(),
     }
@@ -181,7 +192,7 @@ fn first_other_place(first: &Lent, second: &Lent) -> String {
         return "the heads differ".to_string();
     }
     if let Some(row) = first.table.iter().zip(&second.table).position(|(a, b)| a != b) {
-        return format!("row {row} differs: {:?} and {:?}", first.table[row], second.table[row]);
+        return hex_lists(&format!("row {row} differs: {:?} and {:?}", first.table[row], second.table[row]));
     }
     if let Some(byte) = first.area.iter().zip(&second.area).position(|(a, b)| a != b) {
         return format!("area byte {byte} differs: {} and {}", first.area[byte], second.area[byte]);

@@ -1,12 +1,13 @@
 //! This file holds, for each reading of a doubtful sentence of 01, the input that tells the readings apart, with the answer taken.
 
-use super::call::{AskVerdict, Call, Lent};
 use super::good;
 use super::pairing::Pairing;
 use super::prng::Prng;
 use super::scene::{Scene, Sizes};
+use crate::call::{AskVerdict, Call, Lent};
 use crate::rack::Rack;
 use crate::record::{ACTIVE, BLANK, FINALISED};
+use crate::refusals::Refusal;
 use crate::roll::{self, in_blocks};
 use crate::row::{appended, Row, TOP};
 use crate::sha256::digest_of;
@@ -160,7 +161,7 @@ fn initialise(pairing: &mut Pairing, prng: &mut Prng) {
     let keys = good::keys(prng, 3);
     let own = good::rack_of(&keys);
     let roll = in_blocks(&good::rows(prng, 2));
-    let cases: [(&str, [u8; 32], &[u8], &[u8], u8); 6] = [
+    let cases: [(&str, [u8; 32], &[u8], &[u8], Refusal); 6] = [
         ("C4", keys[0], &[], &[0], 8),
         ("C4", keys[0], &[1], &[], 8),
         ("C4", keys[0], &[1], &[0], 6),
@@ -226,7 +227,7 @@ fn repeats(pairing: &mut Pairing, prng: &mut Prng) {
 const SMALL: Sizes = Sizes { previous: 3, own: 3, old: 2, new: 2, rows: 1 };
 
 /// Changes a good scene in one way and expects Activate's answer.
-fn activate(pairing: &mut Pairing, prng: &mut Prng, name: &str, number: u8, change: fn(&mut Scene)) {
+fn activate(pairing: &mut Pairing, prng: &mut Prng, name: &str, number: Refusal, change: fn(&mut Scene)) {
     let mut scene = Scene::good(prng, SMALL, 1);
     change(&mut scene);
     pairing.expect(name, &mut scene.lent(129), &scene.activate(), number);

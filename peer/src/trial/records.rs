@@ -1,10 +1,10 @@
 //! This file holds the trial of arbitrary records: any status and count, rows of every kind, tables of any length, any call.
 
-use super::call::{AskVerdict, Call, Lent};
 use super::good;
 use super::pairing::Pairing;
 use super::prng::Prng;
 use super::scene::{any_sizes, Scene};
+use crate::call::{AskVerdict, Call, Lent};
 use crate::record::{Head, BLANK};
 use crate::roll::in_blocks;
 use crate::row::{Row, TOP};

@@ -1,8 +1,8 @@
 //! This file holds the scene of a handover, part by part, so that trials can damage a part before the bundle is put together.
 
-use super::call::{Call, Lent};
 use super::good;
 use super::prng::Prng;
+use crate::call::{Call, Lent, Papers};
 use crate::record::{Head, PREPARED};
 use crate::roll::in_blocks;
 use crate::row::{appended, Row, TOP};
@@ -111,13 +111,17 @@ impl Scene {
         bundle
     }
 
+    /// The racks of this scene with a bundle.
+    pub fn papers(&self, bundle: Vec<u8>) -> Papers {
+        Papers { previous: self.previous.clone(), own: self.own.clone(), bundle }
+    }
+
     pub fn activate(&self) -> Call {
-        Call::Activate { previous: self.previous.clone(), own: self.own.clone(), bundle: self.bundle() }
+        Call::Activate(self.papers(self.bundle()))
     }
 
     pub fn bytes_to_check(&self, list: u8, entry: u64) -> Call {
-        let (previous, own, bundle) = (self.previous.clone(), self.own.clone(), self.bundle());
-        Call::BytesToCheck { previous, own, bundle, list, entry }
+        Call::BytesToCheck { papers: self.papers(self.bundle()), list, entry }
     }
 }
 

@@ -1,10 +1,10 @@
 //! This file holds the world of a history: keepers, their chips, all that was returned, and demand 3's watch over accepted verdicts.
 
-use super::call::{AskVerdict, Call, Lent, Reply};
 use super::chip::Chips;
 use super::good;
 use super::pairing::Pairing;
 use super::scene::{OldPart, Scene};
+use crate::call::{AskVerdict, Call, Lent, Reply};
 use crate::row::Row;
 use crate::statement::KIND_READ;
 use std::collections::HashMap;
@@ -83,7 +83,7 @@ impl<'p, 'a> World<'p, 'a> {
         let key = self.keepers[keeper].head.key;
         let statements: Vec<&[u8]> = match call {
             // "none that Bytes to check gives"; Wake and Activate write none.
-            Call::BytesToCheck { .. } | Call::Wake { .. } | Call::Activate { .. } => vec![],
+            Call::BytesToCheck { .. } | Call::Wake { .. } | Call::Activate(_) => vec![],
             Call::AppendAndRead { .. } => vec![&written[..121], &written[121..]],
             Call::Finalise { .. } => vec![&written[..129]],
             _ => vec![written],
@@ -134,9 +134,9 @@ impl<'p, 'a> World<'p, 'a> {
 
     /// Asks for a verdict on a statement with these positions; the chips give the marks. An accepted one is held to
     /// demand 3, and a reading to the nonce asked for.
-    pub fn verdict(&mut self, statement: &[u8], positions: &[u8], nonce: [u8; 16]) -> u8 {
+    pub fn verdict(&mut self, statement: &[u8], positions: &[u8], nonce: [u8; 16]) {
         let own: [u8; 32] = part(statement, 33);
-        let Some(rack) = self.racks.get(&own).cloned() else { return 255 };
+        let Some(rack) = self.racks.get(&own).cloned() else { return };
         let mut signers = Vec::new();
         for position in positions {
             let marks = key_at(&rack, *position).map_or(0, |key| self.chips.marks(&key, statement));
@@ -151,14 +151,14 @@ impl<'p, 'a> World<'p, 'a> {
             statement: statement.to_vec(),
             signers,
         };
-        self.judge(ask)
+        self.judge(ask);
     }
 
-    fn judge(&mut self, ask: AskVerdict) -> u8 {
+    fn judge(&mut self, ask: AskVerdict) {
         let reply = self.pairing.call(&mut good::only_area(0), &Call::Verdict(ask.clone()));
         let Reply::Verdict(verdict) = reply else { unreachable!() };
         if verdict.number != 0 {
-            return verdict.number;
+            return;
         }
         if ask.kind == KIND_READ && part::<16>(&ask.statement, 121) != ask.nonce {
             self.pairing.fault("an accepted reading carries another nonce than the one asked for".to_string());
@@ -172,7 +172,6 @@ impl<'p, 'a> World<'p, 'a> {
                 verdict.height
             ));
         }
-        0
     }
 
     /// The positions of a statement's rack at which the chips find a valid signature.

@@ -1,0 +1,38 @@
+//! This file holds the sentences of 01 at which its slips aim, as 01 says them; `broken.rs` says one of them otherwise.
+
+use crate::bundle::{self, Bundle};
+use crate::roll::Roll;
+use crate::row::Row;
+use crate::statement::KIND_READ;
+
+pub trait Rules {
+    /// "Majority = n div 2, plus 1."
+    fn majority(&self, n: u8) -> usize {
+        n as usize / 2 + 1
+    }
+
+    /// "positions strictly rising"
+    fn rises(&self, position: u8, next: u8) -> bool {
+        position < next
+    }
+
+    /// "The nonce counts for kind 3 only."
+    fn nonce_counts(&self, kind: u8) -> bool {
+        kind == KIND_READ
+    }
+
+    /// "for each old entry 17, 18": of so many listed, the first so many are tested.
+    fn tested_old(&self, listed: usize) -> usize {
+        listed
+    }
+
+    /// "The roll is derived exactly if, for each old roll: …"
+    fn is_derived(&self, ours: &[Row], bundle: &Bundle, rolls: &[Roll]) -> bool {
+        bundle::is_derived(ours, bundle, rolls)
+    }
+}
+
+/// The rules as 01 has them.
+pub struct Of01;
+
+impl Rules for Of01 {}
