@@ -28,7 +28,8 @@ its-height c = eq-eqb _ _ (sym (c .before .height-in .ensures) ∙ c .if1 .left)
 -- past the first test the second decides
 past :
     (c : tie.After-is-same) (q : Bool) → c .is-same .result ≡ q
-    → cond q (c .before .before .before .before .before .before .kind-named .result) Blank ≡ kind-of (c .before .before .before .before .before .before .before .args .number) (c .before .before .before .before .before .before .before .args .height) (now (c .before .before .before .before .before .before .before .args .nonce))
+    → (let a = c .before .before .before .before .before .before .before .args in
+    cond q (c .before .before .before .before .before .before .kind-named .result) Blank ≡ kind-of (a .number) (a .height) (now (a .nonce)))
 past c q e =
     let nonce : List ℕ = now (c .before .before .before .before .before .before .before .args .nonce) in
     decided _ _ _ _ true q (c .before .before .before .before .before .before .kind-named .ensures) (its-height (c .before .before .before .before))
