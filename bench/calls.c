@@ -10,7 +10,7 @@
 #include <string.h>
 #include <time.h>
 
-enum { ROUNDS = 300, STACK = 1 << 20, PAINT = 0xa5, CHUNK = 508 };
+enum { ROUNDS = 500, STACK = 1 << 20, PAINT = 0xa5, CHUNK = 508 };
 
 static int ledgers;
 static struct rack first, second;

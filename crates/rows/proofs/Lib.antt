@@ -1,4 +1,5 @@
 -- The laws that the proofs about rows cite, and those that a caller goes by.
+pub mod Labels
 pub mod Rows
 pub mod Tables
 pub mod Searches

@@ -12,6 +12,9 @@ ghost use Rattle.rows.specs.Sizes.{row-bytes, most-rows};
 ghost use Rattle.rows.specs.Row.{row-fits};
 ghost use Rattle.rows.specs.Table.{each, rises, stands, rows-fit};
 
+// A label is two numbers of eight bytes.
+const HALF: usize = LABEL / 2;
+
 // Whether row i keeps the rules of a row.
 fn row_fits(rows: &[u8], i: usize) -> bool
     requires { ⌜ row-bytes * i + row-bytes ≤ length (now rows) ⌝ }
@@ -37,7 +40,12 @@ fn rises(rows: &[u8], i: usize) -> bool
     }
     let earlier = ROW * (i - 1);
     let later = ROW * i;
-    octets::is_before(&rows[earlier..earlier + LABEL], &rows[later..later + LABEL])
+    let a = octets::number_at(rows, earlier);
+    let b = octets::number_at(rows, later);
+    if a != b {
+        return a < b;
+    }
+    octets::number_at(rows, earlier + HALF) < octets::number_at(rows, later + HALF)
 }
 
 fn stands(rows: &[u8], i: usize) -> bool
