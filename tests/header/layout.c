@@ -51,6 +51,13 @@ static void exact(mahqurith_answer shorter, mahqurith_answer full, size_t size, 
     expect(full.number == MAHQURITH_ACCEPTED && full.written == size && full.height == 0 && !full.repeat, what);
 }
 
+/* The statement that stands first in the area is of this kind. */
+static void of_kind(uint8_t kind, size_t size, const char *what)
+{
+    mahqurith_statement_read read = mahqurith_read_statement(area, size);
+    expect(read.number == MAHQURITH_ACCEPTED && read.statement.kind == kind, what);
+}
+
 static mahqurith_asked nothing_asked(void)
 {
     mahqurith_asked asked;
@@ -116,9 +123,11 @@ static void test_ledger(void)
     mahqurith_asked asked = about_ledger();
     exact(mahqurith_new(&a.head, a.rows, MAHQURITH_ROWS, asked, area, MAHQURITH_RECEIPT - 1),
           mahqurith_new(&a.head, a.rows, MAHQURITH_ROWS, asked, area, MAHQURITH_RECEIPT), MAHQURITH_RECEIPT, "new");
+    of_kind(MAHQURITH_NEW, MAHQURITH_RECEIPT, "a new ledger's receipt");
     expect(a.head.count == 1 && all(a.rows[0].label, MAHQURITH_LABEL, 7) && a.rows[0].height == 0, "the new row");
     exact(mahqurith_append(&a.head, a.rows, MAHQURITH_ROWS, asked, area, MAHQURITH_RECEIPT - 1),
           mahqurith_append(&a.head, a.rows, MAHQURITH_ROWS, asked, area, MAHQURITH_RECEIPT), MAHQURITH_RECEIPT, "append");
+    of_kind(MAHQURITH_APPEND, MAHQURITH_RECEIPT, "an append's receipt");
     uint8_t old_and_entry[2 * MAHQURITH_DIGEST] = {0}, tail[MAHQURITH_DIGEST];
     memcpy(old_and_entry + MAHQURITH_DIGEST, asked.entry, MAHQURITH_DIGEST);
     digest_of(1, old_and_entry, sizeof old_and_entry, tail);
@@ -181,6 +190,7 @@ static void test_finalise(void)
     exact(mahqurith_finalise(&a.head, a.rows, MAHQURITH_ROWS, next, sizeof next, area, MAHQURITH_FINALISED - 1),
           mahqurith_finalise(&a.head, a.rows, MAHQURITH_ROWS, next, sizeof next, area, MAHQURITH_FINALISED),
           MAHQURITH_HANDOVER + MAHQURITH_BLOCK, "finalise");
+    of_kind(MAHQURITH_FINALISE, MAHQURITH_HANDOVER, "the finalise statement");
     expect(a.head.status == MAHQURITH_FINAL && same(a.head.next, digest, sizeof digest), "the head after finalise");
     mahqurith_answer again = mahqurith_finalise(&a.head, a.rows, MAHQURITH_ROWS, area, 0, area, sizeof area);
     expect(again.number == 0 && again.repeat && again.written == MAHQURITH_HANDOVER + MAHQURITH_BLOCK, "a repeated finalise");
@@ -198,6 +208,10 @@ static void test_roll(const uint8_t *block)
     read.roll.count = MAHQURITH_ROWS;
     expect(mahqurith_write_roll(read.roll, written, sizeof written - 1).number == MAHQURITH_AREA_TOO_SHORT, "a full roll in a short area");
     expect(mahqurith_write_roll(read.roll, written, sizeof written).written == sizeof written, "a full roll");
+    read.roll.rows[0].height = MAHQURITH_TOP;
+    expect(mahqurith_write_roll(read.roll, written, sizeof written).number == MAHQURITH_ACCEPTED, "the greatest height");
+    read.roll.rows[0].height = MAHQURITH_TOP + 1;
+    expect(mahqurith_write_roll(read.roll, written, sizeof written).number == MAHQURITH_ROLL_BROKEN, "a greater height");
 }
 
 static void test_rack(void)
@@ -225,6 +239,19 @@ static size_t write_bundle(const uint8_t *block, uint8_t *bundle)
     return sizeof before + MAHQURITH_BLOCK + sizeof after;
 }
 
+/* The old entry's marks are the third byte of the bundle. */
+static void test_marks(const uint8_t *previous, const uint8_t *own, uint8_t *bundle, size_t length)
+{
+    const uint8_t good = bundle[2];
+    bundle[2] = MAHQURITH_VALID;
+    expect(mahqurith_activate(&b.head, b.rows, MAHQURITH_ROWS, previous, ONE_RACK, own, ONE_RACK, bundle, length).number
+               == MAHQURITH_NOT_ATTESTED, "a key that is not attested");
+    bundle[2] = MAHQURITH_ATTESTED;
+    expect(mahqurith_activate(&b.head, b.rows, MAHQURITH_ROWS, previous, ONE_RACK, own, ONE_RACK, bundle, length).number
+               == MAHQURITH_SIGNATURE_NOT_VALID, "a signature that is not valid");
+    bundle[2] = good;
+}
+
 static void test_joining(const uint8_t *block)
 {
     uint8_t previous[ONE_RACK], own[ONE_RACK], bundle[MAHQURITH_BLOCK + 16], given[MAHQURITH_HANDOVER];
@@ -237,6 +264,10 @@ static void test_joining(const uint8_t *block)
     expect(b.head.status == MAHQURITH_PREPARED && b.head.count == 1 && same(b.head.identity, asked.identity, MAHQURITH_DIGEST)
                && same(b.head.previous, a.head.own, MAHQURITH_DIGEST) && same(b.rows, a.rows, sizeof a.rows), "the prepared record");
     size_t length = write_bundle(block, bundle);
+    asked.list = MAHQURITH_OLD;
+    expect(mahqurith_bytes_to_check(&b.head, b.rows, MAHQURITH_ROWS, asked, previous, sizeof previous, own, sizeof own, bundle, length, area, sizeof area).number == 0,
+           "the bytes of the old entry");
+    of_kind(MAHQURITH_FINALISE, MAHQURITH_HANDOVER, "the old entry's statement");
     asked.list = MAHQURITH_OF_NEW;
     exact(mahqurith_bytes_to_check(&b.head, b.rows, MAHQURITH_ROWS, asked, previous, sizeof previous, own, sizeof own, bundle, length, area, MAHQURITH_HANDOVER - 1),
           mahqurith_bytes_to_check(&b.head, b.rows, MAHQURITH_ROWS, asked, previous, sizeof previous, own, sizeof own, bundle, length, area, MAHQURITH_HANDOVER),
@@ -245,6 +276,7 @@ static void test_joining(const uint8_t *block)
     asked.number = 1;
     expect(mahqurith_bytes_to_check(&b.head, b.rows, MAHQURITH_ROWS, asked, previous, sizeof previous, own, sizeof own, bundle, length, area, sizeof area).number
                == MAHQURITH_LIST_BROKEN, "an entry that is not there");
+    test_marks(previous, own, bundle, length);
     expect(mahqurith_activate(&b.head, b.rows, MAHQURITH_ROWS, previous, sizeof previous, own, sizeof own, bundle, length).number == 0
                && b.head.status == MAHQURITH_ACTIVE, "activate");
     guarded(&b);

@@ -1,4 +1,5 @@
-"""Prints a C file that compiles only if the header's refusals are those of crates/refusals, name by name and number by number."""
+"""Prints a C file that compiles only if the header's refusals are those of crates/refusals, name by name and number by number, and the
+longest bundle is that of crates/bundle."""
 import re
 
 SOURCE = "crates/refusals/src/lib.rt"
@@ -14,3 +15,5 @@ print('#include "mahqurith.h"')
 print("#ifdef __cplusplus\n#define HOLDS(what) static_assert(what, #what)\n#else\n#define HOLDS(what) _Static_assert(what, #what)\n#endif")
 for name, number in library.items():
     print(f"HOLDS(MAHQURITH_{name} == {number});")
+longest = re.search(r"pub const LONGEST: usize = (\d+);", open("crates/bundle/src/lib.rt").read()).group(1)
+print(f"HOLDS(MAHQURITH_BUNDLE == {longest});")
