@@ -52,6 +52,9 @@ pub const ATTESTED: u8 = 1;
 /// The marks bit that says that the key's signature is valid.
 pub const VALID: u8 = 2;
 
+/// The version of this crate, whose first two numbers are those of the C header: its MAJOR and MINOR.
+pub const VERSION: &str = env!("CARGO_PKG_VERSION");
+
 /// SHA-256 of a message of at most 65,536 bytes.
 ///
 /// ```
