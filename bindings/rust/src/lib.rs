@@ -26,6 +26,9 @@
 
 #![warn(missing_docs)]
 
+#[cfg(not(target_arch = "x86_64"))]
+compile_error!("libmahqurith.a has code for x86-64 and for no other processor");
+
 mod desk;
 mod keeper;
 mod layouts;
