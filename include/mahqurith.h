@@ -37,8 +37,8 @@ extern "C" {
 
 /*
  * The version of this header and of the archive that ./build puts beside it; they belong together. MINOR rises with what
- * is added, so that a program for the earlier header is still right: a call, a name, a refusal that a call did not give
- * before (any number but 0 is a refusal). MAJOR rises, and MINOR begins at 0, with all else: a name, a struct, a size or
+ * is added, so that a program for the earlier header is still right: a call, a name, a case that a call now accepts or now
+ * refuses (any number but 0 is a refusal). MAJOR rises, and MINOR begins at 0, with all else: a name, a struct, a size or
  * the order of arguments that changes, or the bytes that are signed, stored or sent; boxes and desks of two MAJOR versions
  * are not to be mixed.
  */
