@@ -1,10 +1,10 @@
--- `vectors::hex::value` meets its contract: at each `return` the tests that led there say which case of `digitValue` holds.
+-- `hex::value` meets its contract: at each `return` the tests that led there say which case of `digitValue` holds.
 -- Assumes nothing.
 use borrow.Author.Needs.{needs}
 use borrow.Author.Tests.{lt-ltb, le-ltb, le-leb, lt-leb}
 use native.Mathlib.Omega.{arith}
-use Rattle.vectors.proofs.hex.value.Statement.{statement}
-use Rattle.vectors.proofs.hex.value.Tie as tie
+use Rattle.hex.proofs.value.Statement.{statement}
+use Rattle.hex.proofs.value.Tie as tie
 
 add-result : tie.Need-add-result
 add-result c = search needs

@@ -1,4 +1,4 @@
--- `vectors::hex::decode` meets its contract. The loop's invariant: out has kept its length, there are two digits for each of its bytes,
+-- `hex::decode` meets its contract. The loop's invariant: out has kept its length, there are two digits for each of its bytes,
 -- and each byte passed is spelled. The measure is what is left of out. Assumes nothing.
 use Prim.Native.Nat.{ℕ, _*_, _-_, _+_, _<_}
 use mathlib.Core.Path.{_≡_, _∙_}
@@ -11,9 +11,9 @@ use borrow.Author.Count.{below-more, below-none}
 use borrow.Author.Needs.{needs}
 use borrow.Author.Tests.{leb-false}
 use native.Mathlib.Omega.{arith}
-use Rattle.vectors.specs.Hex.{SpelledAt}
-use Rattle.vectors.proofs.hex.decode.Statement.{statement}
-use Rattle.vectors.proofs.hex.decode.Tie as tie
+use Rattle.hex.specs.Digits.{SpelledAt}
+use Rattle.hex.proofs.decode.Statement.{statement}
+use Rattle.hex.proofs.decode.Tie as tie
 
 -- a byte that is stored leaves the others spelled
 kept : {digits out : List ℕ} (i k v : ℕ) → k < i → SpelledAt digits out k → SpelledAt digits (set out i v) k

@@ -1,4 +1,4 @@
--- What the contracts on hexadecimal text cite.
+-- Hexadecimal digits, and the bytes that they spell.
 use Prim.Native.Nat.{ℕ, _+_, _-_, _*_, _<_}
 use mathlib.Core.Path.{_≡_}
 use mathlib.Core.Bool.{cond}

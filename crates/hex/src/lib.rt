@@ -1,7 +1,7 @@
 // Hexadecimal text: the value of a digit, and the bytes that a run of digits spells.
 ghost use mathlib.Core.Path.{_≡_};
 ghost use mathlib.Core.Bool.{true};
-ghost use Rattle.vectors.specs.Hex.{digitValue, Spelled};
+ghost use Rattle.hex.specs.Digits.{digitValue, Spelled};
 
 const FOREIGN: u8 = 16;
 
