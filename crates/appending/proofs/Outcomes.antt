@@ -1,4 +1,4 @@
--- The contract of Append allows one outcome: two that it allows for the same arguments have the same answer, and leave the same head, table and area. Assumes nothing.
+-- The contract of Append allows one outcome: two for the same arguments have the same answer, and leave the same head, table and area. Assumes nothing.
 use mathlib.Core.Path.{sym, _∙_}
 use denote.Ref.{now}
 use Rattle.rack.proofs.Outcomes.{One}

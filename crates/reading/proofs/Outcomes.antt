@@ -1,4 +1,4 @@
--- Each call's contract allows one outcome: two that it allows for the same arguments have the same answer, and leave the same head, table and area. Assumes nothing.
+-- Each call's contract allows one outcome: two for the same arguments have the same answer, and leave the same head, table and area. Assumes nothing.
 use mathlib.Core.Path.{sym, ap, _∙_}
 use mathlib.Core.List.{[]}
 use denote.Ref.{now}
