@@ -20,7 +20,7 @@ pub fn new_kept(head: Head, rows: [Row; MOST], asked: Asked, area: &mut [u8]) ->
 {
     let mut table = flat(rows);
     let label = asked.label;
-    let told = ledgers::new(head, &mut table, label, area);
+    let told = making::new(head, &mut table, label, area);
     keep(told, &table)
 }
 
@@ -31,7 +31,7 @@ pub fn append_kept(head: Head, rows: [Row; MOST], asked: Asked, area: &mut [u8])
     let mut table = flat(rows);
     let label = asked.label;
     let entry = asked.entry;
-    let told = ledgers::append(head, &mut table, label, entry, asked.expected, area);
+    let told = appending::append(head, &mut table, label, entry, asked.expected, area);
     keep(told, &table)
 }
 
@@ -42,7 +42,7 @@ pub fn read_kept(head: Head, rows: [Row; MOST], asked: Asked, area: &mut [u8]) -
     let table = flat(rows);
     let label = asked.label;
     let nonce = asked.nonce;
-    let told = ledgers::read(head, &table, label, nonce, area);
+    let told = reading::read(head, &table, label, nonce, area);
     keep(told, &table)
 }
 
@@ -54,7 +54,7 @@ pub fn append_and_read_kept(head: Head, rows: [Row; MOST], asked: Asked, area: &
     let label = asked.label;
     let entry = asked.entry;
     let nonce = asked.nonce;
-    let told = ledgers::append_and_read(
+    let told = reading::append_and_read(
         head,
         &mut table,
         label,

@@ -1,7 +1,4 @@
--- The laws that the proofs of the ledgers' calls cite.
+-- The laws that the proofs of the calls on ledgers cite.
 pub mod Actives
 pub mod Given
-pub mod Makes
-pub mod Outcomes
 pub mod Places
-pub mod Tables

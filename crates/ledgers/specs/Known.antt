@@ -1,16 +1,13 @@
--- What is known where a ledger is found and where nothing refuses an append, and what the append leaves.
+-- What is known where a ledger is found.
 use mathlib.Core.Path.{_≡_}
 use mathlib.Core.Bool.{true}
 use mathlib.Core.List.{List}
 use Prim.Native.Nat.{ℕ, _≤_, _<_}
 use lib.ListN.{length}
-use Rattle.octets.specs.Strings.{put}
-use Rattle.rows.specs.Sizes.{most-rows, table-bytes, top-height}
+use Rattle.rows.specs.Sizes.{most-rows, table-bytes}
 use Rattle.rows.specs.Row.{row-holds}
-use Rattle.statement.specs.Kinds.{receipt-size}
 use Rattle.rules.specs.Outcomes.{Lent}
 use Rattle.rules.specs.Rows.{row-number, sought, present-tail, present-height}
-use Rattle.rules.specs.Append.{next-tail, next-height, append-statement, moved-on}
 
 -- a ledger is found, with room for so many bytes
 pub record Findable (size : ℕ) (k : Lent) (label : List ℕ) : Type 0 where
@@ -18,17 +15,3 @@ pub record Findable (size : ℕ) (k : Lent) (label : List ℕ) : Type 0 where
   pub long : length (k .table) ≡ table-bytes
   pub place : row-number (sought k label) < most-rows
   pub holds : row-holds label (present-tail k label) (present-height k label) ≡ true
-
--- and its row may move on, whatever its tail becomes
-pub record Appendable (size : ℕ) (k : Lent) (label : List ℕ) : Type 0 where
-  pub there : Findable size k label
-  pub below : present-height k label < top-height
-  pub next : (tail : List ℕ) → row-holds label tail (next-height k label) ≡ true
-
--- the row has moved on and its receipt is written; these are its tail and height
-pub record Entered (k : Lent) (label entry : List ℕ) (table area tail : List ℕ) (height : ℕ) : Type 0 where
-  pub moves : table ≡ moved-on k label entry
-  pub writes : area ≡ put (k .area) 0 (append-statement k label entry)
-  pub long : length (append-statement k label entry) ≡ receipt-size
-  pub tails : tail ≡ next-tail k label entry
-  pub heights : height ≡ next-height k label

@@ -1,3 +1,3 @@
--- What the helpers of the ledgers' calls ask and leave.
+-- What the helpers of the calls on ledgers ask and leave.
 pub mod Known
 pub mod Tests

@@ -1,29 +1,12 @@
--- The tests of a call on a ledger that has to be there, and the answer of a refused append, as the helpers give them.
-use mathlib.Core.Bool.{not}
+-- The tests of a call on a ledger that has to be there.
 use mathlib.Core.List.{List, [], _∷_, _++_}
-use Prim.Native.Nat.{ℕ, _+_}
-use lib.Dec.{eqb}
-use Rattle.refusals.specs.{not-active, no-such-ledger, out-of-order, height-at-top}
+use Prim.Native.Nat.{ℕ}
+use Rattle.refusals.specs.{not-active, no-such-ledger}
 use Rattle.refusals.specs.Order.{Test, _⇒_}
-use Rattle.rows.specs.Sizes.{top-height}
-use Rattle.rules.specs.declared.Told.{Told}
 use Rattle.rules.specs.Record.{active}
-use Rattle.rules.specs.Outcomes.{Lent, refusing, readiness}
-use Rattle.rules.specs.Rows.{is-absent, sought, present-height}
-use Rattle.rules.specs.Append.{append-refusal}
+use Rattle.rules.specs.Outcomes.{Lent, readiness}
+use Rattle.rules.specs.Rows.{is-absent, sought}
 
 -- readiness and the search
 abbrev pub found : ℕ → Lent → List ℕ → List Test
 found size k label = readiness size active not-active k ++ (is-absent (sought k label) ⇒ no-such-ledger) ∷ []
-
--- the heights
-abbrev pub ordered : ℕ → ℕ → List Test
-ordered expected height =
-    (not (eqb expected (height + 1)) ⇒ out-of-order)
-    ∷ (eqb height top-height ⇒ height-at-top)
-    ∷ []
-
--- the refusal of an append into an area of so many bytes; its number is 0 where no test holds
-abbrev pub append-told : ℕ → Lent → List ℕ → ℕ → Told
-append-told size k label expected =
-    record { answer = refusing (append-refusal size k label expected) (present-height k label); head = k .head }

@@ -1,13 +1,9 @@
-// The calls on a keeper's ledgers, over its head by value and its table as flat bytes.
+// What the calls on a keeper's ledgers share: the search for a ledger's row, and receipts.
 
-mod appending;
-mod making;
-mod reading;
 mod receipts;
 mod search;
-mod table;
 
-pub use appending::append;
-pub use making::new;
-pub use reading::append_and_read;
-pub use reading::read;
+pub use receipts::receipt;
+pub use search::is_known;
+pub use search::place_of;
+pub use search::unfound;

@@ -168,8 +168,8 @@ tried-all =
       far-below = far-below;
       second-finalise = second-finalise;
       same-signer-twice = λ q s m n a. listed-twice q s (a .rack-holds) (a .of-three) m n;
-      one-signer = λ q s p a. one-signer q s (a .rack-holds) (a .of-three) (a .asked-for) (a .nonce) p;
-      two-signers = λ q s p r a. two-signers q s (a .rack-holds) (a .of-three) (a .asked-for) (a .nonce) p r;
+      one-signer = λ q s p a. one-signer q s (a .about .rack-holds) (a .about .of-three) (a .asked-for) (a .nonce) p;
+      two-signers = λ q s p r a. two-signers q s (a .about .rack-holds) (a .about .of-three) (a .asked-for) (a .nonce) p r;
       roll-alone = roll-alone;
       lacking-one = λ k previous own s i r o. lacking-one k previous own s o i r;
     }

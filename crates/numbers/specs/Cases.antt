@@ -40,10 +40,14 @@ pub record Stands (k : Lent) (label : List ℕ) (height : ℕ) : Type 0 where
   pub known : is-absent (sought k label) ≡ false
   pub height-is : present-height k label ≡ height
 
--- a question about a rack of three whose statement is the one asked for
-pub record Asked (q : Question) (s : List ℕ) : Type 0 where
+-- a question about a rack of three
+pub record Of-three (q : Question) : Type 0 where
   pub rack-holds : holds rack-layout (q .rack) ≡ true
   pub of-three : rack-cut (q .rack) .count ≡ 3
+
+-- one whose statement is the one asked for
+pub record Asked (q : Question) (s : List ℕ) : Type 0 where
+  pub about : Of-three q
   pub asked-for : is-asked-for q s ≡ true
   pub nonce : has-other-nonce q s ≡ false
 
@@ -85,8 +89,8 @@ pub record Numbers-to-try : Type 0 where
       → (finalising k next ≡ given (last-words (handed-over (k .head) next) (k .table)) (handed-over (k .head) next) (k .table) (k .area))
       × (finalising (record { head = handed-over (k .head) next; table = k .table; area = area }) other
       ≡ again (last-words (handed-over (k .head) next) (k .table)) (record { head = handed-over (k .head) next; table = k .table; area = area }))
-  -- "rack of 3, signer positions 1, 1: 22; one valid signer: 16; two: accepted"
-  pub same-signer-twice : (q : Question) (s : List ℕ) (m n : ℕ) → Asked q s → judging q s (1 ∷ m ∷ 1 ∷ n ∷ []) ≡ nothing-shown 22
+  -- "rack of 3, signer positions 1, 1: 22; one valid signer: 16; two: accepted"; the first whatever the statement and the marks
+  pub same-signer-twice : (q : Question) (s : List ℕ) (m n : ℕ) → Of-three q → judging q s (1 ∷ m ∷ 1 ∷ n ∷ []) ≡ nothing-shown 22
   pub one-signer : (q : Question) (s : List ℕ) (p : ℕ) → Asked q s → p < 3 → judging q s (p ∷ 3 ∷ []) ≡ nothing-shown 16
   pub two-signers : (q : Question) (s : List ℕ) (p r : ℕ) → Asked q s → p < r → r < 3 → judging q s (p ∷ 3 ∷ r ∷ 3 ∷ []) ≡ shown s
   -- "roll without previous rack: 8"

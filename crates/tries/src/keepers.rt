@@ -46,7 +46,7 @@ pub fn founded(table: &mut [u8; TABLE], rack: &[u8]) -> Head {
 // The keeper makes ledger n.
 pub fn make(head: Head, table: &mut [u8; TABLE], n: u8) -> Told {
     let mut area = [0u8; RECEIPT_SIZE];
-    ledgers::new(head, table, label(n), &mut area)
+    making::new(head, table, label(n), &mut area)
 }
 
 // The keeper once it has made ledgers with the labels 1, 2 and so on.
@@ -68,6 +68,6 @@ pub fn enter(
     expected: u64,
     receipt: &mut [u8; RECEIPT_SIZE],
 ) -> Answer {
-    let told = ledgers::append(head, table, label(1), key(1), expected, receipt);
+    let told = appending::append(head, table, label(1), key(1), expected, receipt);
     told.answer
 }

@@ -1,7 +1,6 @@
 // Runs NIST's byte-oriented vectors for SHA-256, and says of each file how many were run and how many digests differ.
 mod digest;
 mod file;
-mod hex;
 mod messages;
 mod monte;
 mod outcome;

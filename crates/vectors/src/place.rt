@@ -1,7 +1,6 @@
 // How far a text is as it must be: each step goes past what must stand next.
 ghost use Prim.Native.Nat.{_+_, _≤_, max};
 ghost use lib.ListN.{length};
-use crate::hex;
 
 pub enum Place {
     // All is as it must be up to this byte.

@@ -1,0 +1,3 @@
+-- What the helpers of Append ask and leave.
+pub mod Known
+pub mod Tests

@@ -1,0 +1,9 @@
+// Append, over a head by value and a table as flat bytes; its parts serve Append and read too.
+
+mod appending;
+mod table;
+
+pub use appending::append;
+pub use appending::enter;
+pub use appending::refusal_of_append;
+pub use table::Shown;

@@ -1,0 +1,2 @@
+-- What the contracts on hexadecimal text cite.
+pub mod Digits

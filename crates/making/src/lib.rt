@@ -1,0 +1,6 @@
+// New, over a head by value and a table as flat bytes.
+
+mod making;
+mod table;
+
+pub use making::new;

@@ -1,0 +1,22 @@
+-- Each call's contract allows one outcome: two for the same arguments have the same answer, and leave the same head, table and area. Assumes nothing.
+use mathlib.Core.Path.{sym, ap, _∙_}
+use mathlib.Core.List.{[]}
+use denote.Ref.{now}
+use Rattle.rack.proofs.Outcomes.{One}
+use Rattle.rules.specs.Outcomes.{Outcome, outcome}
+use Rattle.reading.proofs.reading.read.Kinds as read
+use Rattle.reading.proofs.reading.read.Reads as read-contract
+use Rattle.reading.proofs.reading.append_and_read.Kinds as append-and-read
+use Rattle.reading.proofs.reading.append_and_read.Reads as append-and-read-contract
+
+-- what an outcome shows besides the table, which a read is lent to read and cannot change
+abbrev seen : Outcome → Outcome
+seen o = record { answer = o .answer; left = record { head = o .left .head; table = []; area = o .left .area } }
+
+pub read-one : One 2 read.ps read.r Outcome read-contract.Post (λ κs r e. outcome r [] (now (e .1 .1 .1 .1 .0)))
+read-one κs a r r′ e e′ p q = ap seen (p ∙ sym q)
+
+pub append-and-read-one :
+    One 2 append-and-read.ps append-and-read.r Outcome append-and-read-contract.Post
+    (λ κs r e. outcome r (now (e .1 .0)) (now (e .1 .1 .1 .1 .1 .1 .0)))
+append-and-read-one κs a r r′ e e′ p q = p ∙ sym q
