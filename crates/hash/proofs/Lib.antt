@@ -1,9 +1,8 @@
--- The laws that the hash library's proofs cite, by what they are about, and the standard's worked examples.
+-- The laws that the hash library's proofs cite, by what they are about.
 pub mod Stored
 pub mod Table
 pub mod Absorbed
 pub mod Digests
-pub mod Examples
 pub mod Gap
 pub mod Padded
 pub mod Promised

@@ -1,5 +1,5 @@
 -- How the library goes through the rounds: it keeps the schedule as far as it is filled beside the working variables, and a turn fills one word and
--- reads it in the round of the same number. `proofs/Turned.antt` shows that turns are the schedule and the rounds of FIPS 180-4.
+-- reads it in the round of the same number. `proofs/Turns.antt` shows that turns are the schedule and the rounds of FIPS 180-4.
 use mathlib.Core.List.{List}
 use Prim.Native.Nat.{ℕ, zero, suc, _+_}
 use lib.ListN.{getD, set}

@@ -56,7 +56,20 @@ wrapping-add-u32-requires-8 c κs = search needs
 
 returns : tie.Need-returns
 unfolding plus summed SHA-256
-returns c = cc
+returns c =
+    let sixth = c .before .before in
+    let fourth = sixth .before .before in
+    let second = fourth .before .before in
+    rw (
+      c .wrapping-add-u328 .ensures,
+      c .before .wrapping-add-u327 .ensures,
+      sixth .wrapping-add-u326 .ensures,
+      sixth .before .wrapping-add-u325 .ensures,
+      fourth .wrapping-add-u324 .ensures,
+      fourth .before .wrapping-add-u323 .ensures,
+      second .wrapping-add-u322 .ensures,
+      second .before .wrapping-add-u32 .ensures,
+    )
 
 pub sums-spec : {M : Type 1} → statement M
 sums-spec =

@@ -26,7 +26,10 @@ wrapping-add-u32-requires-4 c κs = search needs
 
 returns : tie.Need-returns
 unfolding plus T₁ SHA-256
-returns c = cc
+returns c =
+    let second = c .before .before in
+    let first = second .before .before in
+    rw (c .wrapping-add-u324 .ensures, c .before .wrapping-add-u323 .ensures, second .wrapping-add-u322 .ensures, second .before .ch .ensures, first .wrapping-add-u32 .ensures, first .before .upper-sigma-1 .ensures)
 
 pub first-sum-spec : {M : Type 1} → statement M
 first-sum-spec =

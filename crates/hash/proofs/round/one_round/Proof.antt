@@ -20,7 +20,9 @@ wrapping-add-u32-requires-2 c κs = search needs
 
 returns : tie.Need-returns
 unfolding plus shifted round SHA-256
-returns c = cc
+returns c =
+    let sums = c .before .before in
+    rw (c .wrapping-add-u322 .ensures, c .before .wrapping-add-u32 .ensures, sums .second-sum .ensures, sums .before .first-sum .ensures)
 
 pub one-round-spec : {M : Type 1} → statement M
 one-round-spec =

@@ -17,7 +17,7 @@ wrapping-add-u32-requires c κs = search needs
 
 returns : tie.Need-returns
 unfolding plus T₂ SHA-256
-returns c = cc
+returns c = rw (c .wrapping-add-u32 .ensures, c .before .maj .ensures, c .before .before .upper-sigma-0 .ensures)
 
 pub second-sum-spec : {M : Type 1} → statement M
 second-sum-spec =
