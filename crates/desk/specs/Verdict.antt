@@ -1,5 +1,6 @@
--- 01, "Verdict (retained identity, rack, asked kind 1 to 3, label, nonce, statement, signers): 6, 22, 23, 24, 16, then for each signer 17, 18. Gives tail and height. Signers are pairs of position
--- and marks, one byte each, at most n whole pairs, positions strictly rising and below n, otherwise 22. The nonce counts for kind 3 only. Asked kinds outside 1 to 3 are 23."
+-- 01, "Verdict (retained identity, rack, asked kind 1 to 3, label, nonce, statement, signers): 6, 22, 23, 24, 16, then for each signer 17, 18. Gives tail
+-- and height. Signers are pairs of position and marks, one byte each, at most n whole pairs, positions strictly rising and below n, otherwise 22. The
+-- nonce counts for kind 3 only. Asked kinds outside 1 to 3 are 23."
 use mathlib.Core.Bool.{Bool, not, cond, _&&_}
 use mathlib.Core.List.{List, _∷_}
 use Prim.Native.Nat.{ℕ, _*_, _/_}

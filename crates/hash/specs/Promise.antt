@@ -1,4 +1,5 @@
--- The whole outcome of the library's call. 01, "The hash": "The rules are those of FIPS 180-4, for inputs of 0 to 65,536 bytes; a longer one is refused with 25."
+-- The whole outcome of the library's call. 01, "The hash": "The rules are those of FIPS 180-4, for inputs of 0 to 65,536 bytes; a longer one is refused
+-- with 25."
 use mathlib.Core.Bool.{Bool, true, false}
 use mathlib.Core.List.{List}
 use Prim.Native.Nat.{ℕ}

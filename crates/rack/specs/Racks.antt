@@ -53,9 +53,13 @@ is-among key (k ∷ keys) = same k key || is-among key keys
 abbrev pub rack-mark : ℕ
 rack-mark = 0x03
 
--- "SHA-256 of 0x03 then the rack"
+-- "0x03 then the rack"
+abbrev pub rack-string : List ℕ → List ℕ
+rack-string s = rack-mark ∷ s
+
+-- "SHA-256 of" it
 unfoldable pub rack-digest : List ℕ → List ℕ
-rack-digest s = sha256 (rack-mark ∷ s)
+rack-digest s = sha256 (rack-string s)
 
 -- "n div 2, plus 1"
 abbrev pub majority : ℕ → ℕ

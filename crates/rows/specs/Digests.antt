@@ -13,13 +13,19 @@ append-mark = 0x01
 abbrev pub roll-mark : ℕ
 roll-mark = 0x02
 
--- of the first n rows of a string
+-- "0x02, the count as one byte, the rows": of the first n rows of a string
+abbrev pub rows-string : ℕ → List ℕ → List ℕ
+rows-string n rows = roll-mark ∷ n ∷ take (row-bytes * n) rows
+
 unfoldable pub digest-of-rows : ℕ → List ℕ → List ℕ
-digest-of-rows n rows = sha256 (roll-mark ∷ n ∷ take (row-bytes * n) rows)
+digest-of-rows n rows = sha256 (rows-string n rows)
 
 -- of the first `count` rows of a table, or of those that it holds
+unfoldable pub roll-string : ℕ → List ℕ → List ℕ
+roll-string count rows = rows-string (held count rows) rows
+
 unfoldable pub roll-digest : ℕ → List ℕ → List ℕ
-roll-digest count rows = digest-of-rows (held count rows) rows
+roll-digest count rows = sha256 (roll-string count rows)
 
 unfoldable pub appended : List ℕ → List ℕ → List ℕ
 appended tail entry = sha256 (append-mark ∷ tail ++ entry)

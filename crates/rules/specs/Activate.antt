@@ -1,10 +1,11 @@
--- 01, "Activate (previous rack, own rack, bundle): 2, 5, 6 (previous, then own), 21, 22, 15, 16, then for each old entry 17, 18, for each new entry 17, 19, then 20. Status becomes active; nothing
--- else changes."
+-- 01, "Activate (previous rack, own rack, bundle): 2, 5, 6 (previous, then own), 21, 22, 15, 16, then for each old entry 17, 18, for each new entry 17,
+-- 19, then 20. Status becomes active; nothing else changes."
 use mathlib.Core.Bool.{Bool, not, _&&_, _||_}
 use mathlib.Core.List.{List, [], _∷_, _++_}
 use Prim.Native.Nat.{ℕ}
 use lib.Dec.{ltb}
-use Rattle.refusals.specs.{not-prepared, rack-broken, digest-differs, list-broken, roll-broken, too-few, signature-not-valid, initialise-not-valid, not-derived}
+use Rattle.refusals.specs.{not-prepared, rack-broken, digest-differs, list-broken, roll-broken, too-few}
+use Rattle.refusals.specs.{signature-not-valid, initialise-not-valid, not-derived}
 use Rattle.refusals.specs.Order.{Test, _⇒_, first}
 use Rattle.octets.specs.Strings.{same}
 use Rattle.octets.specs.Layouts.{holds}

@@ -1,6 +1,7 @@
--- 01, "Handover bundle": "At most 65,536 bytes; positions, marks and block counts are one byte each. One byte a; a old entries (position in the previous rack, marks, block count 1 to 7, the roll
--- blocks); one byte b; b new entries (position in the own rack, marks); then for each old entry, for each row of this keeper's roll in order, a two-byte count of 0 to 64 and that many entry
--- digests; nothing after. Positions strictly rise within each list and lie below the rack's size."
+-- 01, "Handover bundle": "At most 65,536 bytes; positions, marks and block counts are one byte each. One byte a; a old entries (position in the previous
+-- rack, marks, block count 1 to 7, the roll blocks); one byte b; b new entries (position in the own rack, marks); then for each old entry, for each row of
+-- this keeper's roll in order, a two-byte count of 0 to 64 and that many entry digests; nothing after. Positions strictly rise within each list and lie
+-- below the rack's size."
 use mathlib.Core.Bool.{Bool, _&&_}
 use mathlib.Core.List.{List, [], _∷_}
 use Prim.Native.Nat.{ℕ, zero, suc, _+_, _*_}

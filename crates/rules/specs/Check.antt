@@ -1,6 +1,7 @@
--- 01, "Bytes to check (previous rack, own rack, bundle, old or new list, entry number from 0; 129): 1, 2, 5, 6 (previous, then own), 21, 22, 15, then 22 if that list has no such entry. Gives the
--- finalise or initialise statement that the entry's marks speak of; head and table stay." And "Handover bundle": "Marks of an old entry speak of the finalise statement with this identity,
--- previous rack, own rack and that roll; of a new one, of the initialise statement with this keeper's own identity, racks and roll."
+-- 01, "Bytes to check (previous rack, own rack, bundle, old or new list, entry number from 0; 129): 1, 2, 5, 6 (previous, then own), 21, 22, 15, then 22
+-- if that list has no such entry. Gives the finalise or initialise statement that the entry's marks speak of; head and table stay." And "Handover bundle":
+-- "Marks of an old entry speak of the finalise statement with this identity, previous rack, own rack and that roll; of a new one, of the initialise
+-- statement with this keeper's own identity, racks and roll."
 use mathlib.Core.Bool.{not, cond}
 use mathlib.Core.List.{List, [], _∷_, _++_}
 use Prim.Native.Nat.{ℕ}

@@ -1,5 +1,6 @@
--- 01, "Handover bundle": "The roll is derived exactly if, for each old roll: its labels are those of this keeper's roll, no more and no fewer; and for each row, its height plus the count equals
--- ours and appending the listed digests to its tail gives our tail. Also, for each row, some old roll that has it adds none."
+-- 01, "Handover bundle": "The roll is derived exactly if, for each old roll: its labels are those of this keeper's roll, no more and no fewer; and for
+-- each row, its height plus the count equals ours and appending the listed digests to its tail gives our tail. Also, for each row, some old roll that has
+-- it adds none."
 use mathlib.Core.Bool.{Bool, false, not, _&&_, _||_}
 use mathlib.Core.List.{List}
 use Prim.Native.Nat.{ℕ, zero, suc, _+_, _*_}
@@ -34,7 +35,8 @@ unfoldable pub grown : List ℕ → List ℕ → ℕ → List ℕ
 grown tail s zero = tail
 grown tail s (suc n) = appended (grown tail s n) (take digest-bytes (drop (digest-bytes * n) s))
 
--- "no fewer", "its height plus the count equals ours and appending the listed digests to its tail gives our tail": for row r of ours, with n digests in a string
+-- "no fewer", "its height plus the count equals ours and appending the listed digests to its tail gives our tail": for row r of ours, with n digests in a
+-- string
 unfoldable pub row-derived : Roll → Roll → ℕ → List ℕ → ℕ → Bool
 row-derived ours old r s n =
     not (is-absent (row-in old ours r))

@@ -1,5 +1,5 @@
--- 01, "Finalise (next rack; 3,713): 1, 2; if already finalised, the earlier statement and roll again, the argument not read, marked as a repeat with nothing to sign; then 4, 6. Gives the
--- statement, then the roll blocks; the chip signs, then erases its key."
+-- 01, "Finalise (next rack; 3,713): 1, 2; if already finalised, the earlier statement and roll again, the argument not read, marked as a repeat with
+-- nothing to sign; then 4, 6. Gives the statement, then the roll blocks; the chip signs, then erases its key."
 use mathlib.Core.Bool.{not, cond}
 use mathlib.Core.List.{List, [], _∷_, _++_}
 use Prim.Native.Nat.{ℕ}

@@ -1,6 +1,7 @@
--- 01, "Initialise (identity, roll, previous rack, own rack; 129 bytes out): 1, 2, 3, own rack 6, 7, 8, previous rack 6, 15. With roll and previous rack both of length 0 the rack is founded:
--- identity becomes the own rack digest, the given identity isn't read, and the status is *active* at once. With both present the status is prepared and roll and identity are taken unproved.
--- Own and previous rack digests are set (previous zeros when founding), the next one to zeros. One present alone is 8."
+-- 01, "Initialise (identity, roll, previous rack, own rack; 129 bytes out): 1, 2, 3, own rack 6, 7, 8, previous rack 6, 15. With roll and previous rack
+-- both of length 0 the rack is founded: identity becomes the own rack digest, the given identity isn't read, and the status is *active* at once. With both
+-- present the status is prepared and roll and identity are taken unproved. Own and previous rack digests are set (previous zeros when founding), the next
+-- one to zeros. One present alone is 8."
 use mathlib.Core.Bool.{Bool, not, cond, _&&_}
 use mathlib.Core.List.{List, [], _∷_, _++_}
 use Prim.Native.Nat.{ℕ}
@@ -42,7 +43,16 @@ initialise-refusal k roll previous own =
 -- the initialise statement of a head and a table: "previous rack digest (zeros when founding), own rack digest, roll digest"
 unfoldable pub initialise-statement : Head → List ℕ → List ℕ
 initialise-statement h table =
-    statement-written (record { kind = Initialise; identity = h .identity; own = h .own; label = no-label; tail = no-digest; other = h .previous; roll = roll-digest (h .count) table })
+    statement-written
+    (record {
+      kind = Initialise;
+      identity = h .identity;
+      own = h .own;
+      label = no-label;
+      tail = no-digest;
+      other = h .previous;
+      roll = roll-digest (h .count) table;
+    })
 
 -- the head of a founded rack's keeper; the table stays without rows
 abbrev pub founded : Head → List ℕ → Head

@@ -1,4 +1,5 @@
--- The keeper's rules: its record, what a call is lent and leaves, the handover bundle, and each call from what it is lent to its whole outcome, in the order of 01.
+-- The keeper's rules: its record, what a call is lent and leaves, the handover bundle, and each call from what it is lent to its whole outcome, in the
+-- order of 01.
 pub mod Record
 pub mod Outcomes
 pub mod Table

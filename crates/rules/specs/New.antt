@@ -32,4 +32,5 @@ new-refusal k label =
 unfoldable pub making : Lent → List ℕ → Outcome
 making k label =
     unless (new-refusal k label) 0 k
-    (given (statement-written (receipt-of (k .head) New label no-digest)) (one-more (k .head)) (widened (k .table) (smaller (k .head .count) (k .table) label) label) (k .area))
+    (given (statement-written (receipt-of (k .head) New label no-digest)) (one-more (k .head))
+    (widened (k .table) (smaller (k .head .count) (k .table) label) label) (k .area))

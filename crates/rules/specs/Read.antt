@@ -1,4 +1,5 @@
--- 01, "Read (label, nonce; 137): 1, 2, 4, 10." and "Append and read (258: append's statement, then the read's): as append; if the append is refused the whole call is".
+-- 01, "Read (label, nonce; 137): 1, 2, 4, 10." and "Append and read (258: append's statement, then the read's): as append; if the append is refused the
+-- whole call is".
 use mathlib.Core.List.{List, [], _∷_, _++_}
 use Prim.Native.Nat.{ℕ, _+_}
 use lib.ListN.{take, drop}

@@ -19,7 +19,8 @@ active = 2
 abbrev pub finalised : ℕ
 finalised = 3
 
--- "The record is sound when the table has 63 rows, status is at most 3, count is at most 63 (0 when blank), the first rows form a roll as above and the rest are zero."
+-- "The record is sound when the table has 63 rows, status is at most 3, count is at most 63 (0 when blank), the first rows form a roll as above and the
+-- rest are zero."
 unfoldable pub sound : Head → List ℕ → Bool
 sound h table =
     leb (h .status) finalised && cond (eqb (h .status) blank) (eqb (h .count) 0) true && rows-fit (h .count) table

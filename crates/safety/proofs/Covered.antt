@@ -7,8 +7,8 @@ use Rattle.statement.specs.declared.Statement.{Statement}
 use Rattle.desk.specs.Verdict.{height-in}
 use Rattle.safety.specs.Calls.{Keeper}
 use Rattle.safety.specs.Histories.{Event, keeper-after}
-use Rattle.safety.specs.Hashed.{Told-apart, roll-in}
-use Rattle.safety.proofs.Views.{Reaches}
+use Rattle.safety.specs.Hashed.{Told-apart}
+use Rattle.safety.proofs.Views.{roll-in, Reaches}
 use Rattle.safety.proofs.Sights.{reached-on, reached-in}
 use Rattle.safety.proofs.Quorums.{shared-of}
 use Rattle.safety.proofs.Offices.{Hands, Handover, Line, from-there, by-handover, is-finalised, Office}

@@ -3,15 +3,15 @@ use mathlib.Core.Path.{_≡_, refl, sym, subst, subst₃, _∙_}
 use mathlib.Core.List.{List, _∷_}
 use Prim.Native.Nat.{ℕ}
 use Rattle.hash.specs.Sha256.{sha256}
-use Rattle.rack.specs.Racks.{rack-digest}
-use Rattle.rows.specs.Digests.{digest-of-rows, roll-digest}
+use Rattle.rack.specs.Racks.{rack-string, rack-digest}
+use Rattle.rows.specs.Digests.{roll-digest}
 use Rattle.roll.specs.Roll.{Roll}
 use Rattle.statement.specs.declared.Statement.{Statement}
 use Rattle.statement.specs.Cut.{no-digest}
 use Rattle.safety.specs.Calls.{Keeper}
 use Rattle.safety.specs.Histories.{Event, keeper-after}
-use Rattle.safety.specs.Hashed.{Hashed, Told-apart, rack-string, roll-string, roll-in}
-use Rattle.safety.proofs.Views.{Grows, Receipt, enter-of, leave-of, roll-name}
+use Rattle.safety.specs.Hashed.{Hashed, Told-apart}
+use Rattle.safety.proofs.Views.{roll-in, string-of, Grows, Receipt, enter-of, leave-of, roll-name}
 use Rattle.safety.proofs.Tales.{Said}
 use Rattle.safety.proofs.Quorums.{shared-of}
 use Rattle.safety.proofs.Offices.{Handover, Line, from-there, by-handover, Live, Past, Heritage, from-first, inherited, Office, said-called}
@@ -20,8 +20,8 @@ use Rattle.safety.proofs.Turns.{Left, left-stands, Entered, entered-sta
 tail-same : (x : ℕ) (a b : List ℕ) → x ∷ a ≡ x ∷ b → a ≡ b
 tail-same x a b e = cc
 
-roll-named : (v : Roll) → roll-name v ≡ sha256 (roll-string v)
-unfolding roll-digest digest-of-rows roll-string
+roll-named : (v : Roll) → roll-name v ≡ sha256 (string-of v)
+unfolding roll-digest
 roll-named v = refl
 
 -- strings hashed in a history are told apart by their digests
@@ -32,8 +32,8 @@ module _ {start : List ℕ → Keeper} {h : List Event} (apart : Told-apart star
   rack-same digest a b p q s t = tail-same _ a b (apart .apart (rack-string a) (rack-string b) s t (sym p ∙ q))
 
   -- rolls with one name are one string
-  pub roll-same : (v w : Roll) → roll-name v ≡ roll-name w → Hashed start (roll-string v) h → Hashed start (roll-string w) h → roll-string v ≡ roll-string w
-  roll-same v w p s t = apart .apart (roll-string v) (roll-string w) s t (sym (roll-named v) ∙ p ∙ roll-named w)
+  pub roll-same : (v w : Roll) → roll-name v ≡ roll-name w → Hashed start (string-of v) h → Hashed start (string-of w) h → string-of v ≡ string-of w
+  roll-same v w p s t = apart .apart (string-of v) (string-of w) s t (sym (roll-named v) ∙ p ∙ roll-named w)
 
   -- no rack's digest is zeros
   pub rack-not-zeros : (digest a : List ℕ) → digest ≡ rack-digest a → Hashed start (rack-string a) h → digest ≡ no-digest → ⊥

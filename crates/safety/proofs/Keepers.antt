@@ -7,12 +7,13 @@ use native.Mathlib.Omega.{arith}
 use Rattle.octets.specs.Strings.{same}
 use Rattle.octets.proofs.RoundTrips.{same-is, same-refl}
 use Rattle.refusals.specs.{accepted}
+use Rattle.rack.specs.Racks.{rack-string}
 use Rattle.statement.specs.declared.Statement.{Statement}
 use Rattle.statement.specs.Cut.{cut-statement}
 use Rattle.desk.specs.Verdict.{Question, judging}
 use Rattle.safety.specs.Calls.{Keeper, Call, left-by}
 use Rattle.safety.specs.Histories.{Event, At, Judged, keeper-after, called, _∈_, at-front, behind}
-use Rattle.safety.specs.Hashed.{Hashed, now-hashed, before-hashed, rack-string}
+use Rattle.safety.specs.Hashed.{Hashed, now-hashed, before-hashed}
 use Rattle.safety.proofs.Views.{Vouched, Waking, founds, prepares, notes, closes, activates, idles}
 use Rattle.safety.proofs.Tales.{Said, before-said, says, Seen-as, Tale, begun, woken, acted, judged, Verdict-on}
 use Rattle.safety.proofs.Offices.{Office, most-map, said-called, said-judged, Said-at, said-here, said-earlier, said-at}

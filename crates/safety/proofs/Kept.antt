@@ -1,15 +1,15 @@
 -- A keeper's sizes along a lawful history: set by its Wake, and kept by every call. Assumes nothing.
 use mathlib.Core.Path.{_≡_, refl, sym, ap, subst, _∙_}
-use mathlib.Core.Bool.{Bool, true, false, not, cond, _||_}
+use mathlib.Core.Bool.{Bool, true, false, not, cond, _&&_, _||_}
 use mathlib.Core.List.{List, [], _∷_, map}
 use Prim.Native.Nat.{ℕ}
 use native.Mathlib.Omega.{arith}
-use borrow.Author.Tests.{ne-eqb}
+use borrow.Author.Tests.{eqb-true, ne-eqb}
 use lib.ListN.{length, replicate}
 use lib.Dec.{eqb}
 use Rattle.refusals.specs.{accepted}
 use Rattle.octets.specs.Strings.{same}
-use Rattle.octets.proofs.RoundTrips.{same-is}
+use Rattle.octets.proofs.RoundTrips.{and-left, and-right, same-is}
 use Rattle.roll.specs.Roll.{roll-layout}
 use Rattle.statement.specs.Kinds.{digest-bytes}
 use Rattle.statement.specs.Cut.{cut-statement}
@@ -26,9 +26,8 @@ use Rattle.rules.specs.Activate.{activating}
 use Rattle.rules.specs.Check.{checking}
 use Rattle.rules.proofs.Refused.{Ends, stopped, went, ends}
 use Rattle.safety.specs.Calls.{Keeper, Call, Wake, Initialise, New, Append, Read, Append-and-read, Finalise, Activate, Bytes-to-check}
-use Rattle.safety.specs.Calls.{lent, outcome-of, left-by, accepts, statements-in, is-wake, Sized, Taken}
-use Rattle.safety.specs.Histories.{Event, At, Judged, keeper-after, called}
-use Rattle.safety.specs.Chip.{Orderly, Lawful, at-first, and-then}
+use Rattle.safety.specs.Calls.{lent, outcome-of, left-by, accepts, statements-in, is-wake, sized}
+use Rattle.safety.specs.Histories.{Event, At, Judged, keeper-after, called, in-order, orderly}
 use Rattle.safety.proofs.Views.{Waking}
 use Rattle.safety.proofs.Tales.{says}
 use Rattle.safety.proofs.Ended.{Gives, gives}
@@ -79,7 +78,7 @@ module _ (key : List ℕ) (k : Keeper) (whole : Whole (k .head)) where
       record { identity = ap length i ∙ whole .identity; own = ap length o ∙ whole .own; previous = ap length p ∙ whole .previous }
 
   entered-whole :
-      (identity roll previous own area : List ℕ) (b : Bool) → Sized digest-bytes identity
+      (identity roll previous own area : List ℕ) (b : Bool) → length identity ≡ digest-bytes
       → Whole (cond b (entered (lent k area) (founded (k .head) own) (k .table))
       (entered (lent k area) (preparing (k .head) identity (roll-layout .cut roll .count) previous own) (roll-layout .cut roll .rows)) .left .head)
   unfolding entered given
@@ -103,11 +102,11 @@ module _ (key : List ℕ) (k : Keeper) (whole : Whole (k .head)) where
   ended-whole next area true = whole
   ended-whole next area false = leaving-whole next area
 
-  keeps-outcome : (call : Call) → is-wake call ≡ false → Taken call → Whole (outcome-of key k call .left .head)
-  unfolding outcome-of initialising making appending reading appending-and-reading finalising activating checking given is-wake Taken
+  keeps-outcome : (call : Call) → is-wake call ≡ false → sized call ≡ true → Whole (outcome-of key k call .left .head)
+  unfolding outcome-of initialising making appending reading appending-and-reading finalising activating checking given is-wake sized
   keeps-outcome Wake e t = let z : _≡_ {A = Bool} true false = e in let y : _≡_ {A = ℕ} 0 1 = cc in absurd (omega arith)
   keeps-outcome (Initialise identity roll previous own area) e t =
-      keeps-unless (Initialise identity roll previous own area) _ 0 area _ (entered-whole identity roll previous own area (absent roll) t) refl
+      keeps-unless (Initialise identity roll previous own area) _ 0 area _ (entered-whole identity roll previous own area (absent roll) (eqb-true (length identity) digest-bytes t)) refl
   keeps-outcome (New label area) e t = keeps-unless (New label area) _ 0 area _ (same-whole _ refl refl refl) refl
   keeps-outcome (Append label entry expected area) e t = keeps-unless (Append label entry expected area) _ _ area _ whole refl
   keeps-outcome (Read label nonce area) e t = keeps-unless (Read label nonce area) _ 0 area _ whole refl
@@ -116,7 +115,7 @@ module _ (key : List ℕ) (k : Keeper) (whole : Whole (k .head)) where
   keeps-outcome (Activate previous own bundle) e t = keeps-unless (Activate previous own bundle) _ 0 [] _ (same-whole _ refl refl refl) refl
   keeps-outcome (Bytes-to-check previous own bundle list entry area) e t = keeps-unless (Bytes-to-check previous own bundle list entry area) _ 0 area _ whole refl
 
-  pub keeps-whole : (call : Call) → is-wake call ≡ false → Taken call → Whole (left-by key k call .head)
+  pub keeps-whole : (call : Call) → is-wake call ≡ false → sized call ≡ true → Whole (left-by key k call .head)
   unfolding left-by
   keeps-whole call e t = keeps-outcome call e t
 
@@ -141,25 +140,44 @@ pub wake-wakes : (key : List ℕ) (k : Keeper) (call : Call) → is-wake call �
 wake-wakes key k call w =
     subst (λ (c : Call). accepts key k c ≡ true → Waking (left-by key k c) (says key k c)) (sym (only-wake call w)) (wakes key k)
 
--- so a keeper that was called has them
-module _ (keepers : List (List ℕ)) (start : List ℕ → Keeper) where
-  whole-then :
-      (h : List Event) (key : List ℕ) (call : Call) → (called key h ≡ true → Whole (keeper-after start h key .head)) → Orderly start h (At key call)
-      → Whole (left-by key (keeper-after start h key) call .head)
-  unfolding Orderly
-  whole-then h key call earlier o = go (is-wake call) refl
-    where
-      go : (b : Bool) → is-wake call ≡ b → Whole (left-by key (keeper-after start h key) call .head)
-      go true e = wake-whole key (keeper-after start h key) call e (o .1 e)
-      go false e = keeps-whole key (keeper-after start h key) (earlier (o .0 ∙ ap not e)) call e (o .2 .1)
+-- a call that is in order: a first Wake, or another call of a keeper that was woken
+pub data Comes (start : List ℕ → Keeper) (h : List Event) (key : List ℕ) (call : Call) : Type 0 where
+  first : is-wake call ≡ true → called key h ≡ false → accepts key (keeper-after start h key) call ≡ true → Comes start h key call
+  later : is-wake call ≡ false → called key h ≡ true → sized call ≡ true → Comes start h key call
 
-  pub whole-after : (h : List Event) → Lawful keepers start h → (key : List ℕ) → called key h ≡ true → Whole (keeper-after start h key .head)
-  unfolding called keeper-after
-  whole-after [] at-first key c = let z : _≡_ {A = Bool} false true = c in let y : _≡_ {A = ℕ} 0 1 = cc in absurd (omega arith)
-  whole-after (At other call ∷ h) (and-then o m l) key c = go (same other key) refl (whole-after h l key) c
+is-not : (b : Bool) → not b ≡ true → b ≡ false
+is-not false e = refl
+is-not true e = sym e
+
+module _ (start : List ℕ → Keeper) where
+  pub comes : (h : List Event) (key : List ℕ) (call : Call) → in-order start h (At key call) ≡ true → Comes start h key call
+  unfolding in-order
+  comes h key call e = go (is-wake call) refl e
+    where
+      go : (b : Bool) → is-wake call ≡ b → cond b (not (called key h) && accepts key (keeper-after start h key) call) (called key h && sized call) ≡ true
+          → Comes start h key call
+      go true w e =
+          first w (is-not (called key h) (and-left (not (called key h)) (accepts key (keeper-after start h key) call) e))
+          (and-right (not (called key h)) (accepts key (keeper-after start h key) call) e)
+      go false w e = later w (and-left (called key h) (sized call) e) (and-right (called key h) (sized call) e)
+
+  -- so a keeper that was called has its sizes
+  whole-then :
+      (h : List Event) (key : List ℕ) (call : Call) → (called key h ≡ true → Whole (keeper-after start h key .head)) → Comes start h key call
+      → Whole (left-by key (keeper-after start h key) call .head)
+  whole-then h key call earlier (first w c a) = wake-whole key (keeper-after start h key) call w a
+  whole-then h key call earlier (later w c s) = keeps-whole key (keeper-after start h key) (earlier c) call w s
+
+  pub whole-after : (h : List Event) → orderly start h ≡ true → (key : List ℕ) → called key h ≡ true → Whole (keeper-after start h key .head)
+  unfolding called keeper-after orderly
+  whole-after [] o key c = let z : _≡_ {A = Bool} false true = c in let y : _≡_ {A = ℕ} 0 1 = cc in absurd (omega arith)
+  whole-after (At other call ∷ h) o key c = go (same other key) refl (whole-after h (and-right (in-order start h (At other call)) (orderly start h) o) key) c
     where
       go : (b : Bool) → same other key ≡ b → (called key h ≡ true → Whole (keeper-after start h key .head)) → (b || called key h) ≡ true
           → Whole (cond b (left-by key (keeper-after start h key) call) (keeper-after start h key) .head)
-      go true e earlier c = whole-then h key call earlier (subst (λ (x : List ℕ). Orderly start h (At x call)) (same-is other key e) o)
+      go true e earlier c =
+          whole-then h key call earlier
+          (comes h key call (subst (λ (x : List ℕ). in-order start h (At x call) ≡ true) (same-is other key e)
+          (and-left (in-order start h (At other call)) (orderly start h) o)))
       go false e earlier c = earlier c
-  whole-after (Judged q s signers ∷ h) (and-then o m l) key c = whole-after h l key c
+  whole-after (Judged q s signers ∷ h) o key c = whole-after h (and-right (in-order start h (Judged q s signers)) (orderly start h) o) key c

@@ -3,6 +3,7 @@
 pub mod Views
 pub mod Tales
 -- how calls end, what a keeper holds, and what its rolls show
+pub mod Members
 pub mod Ended
 pub mod Sizes
 pub mod RowsParts

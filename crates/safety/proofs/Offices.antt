@@ -6,7 +6,7 @@ use Prim.Native.Nat.{ℕ}
 use native.Mathlib.Omega.{arith}
 use Rattle.octets.specs.Strings.{same}
 use Rattle.octets.proofs.RoundTrips.{same-refl}
-use Rattle.rack.specs.Racks.{rack-digest}
+use Rattle.rack.specs.Racks.{rack-string, rack-digest}
 use Rattle.roll.specs.Roll.{Roll}
 use Rattle.statement.specs.declared.Kind.{Kind}
 use Rattle.statement.specs.declared.Kind.the-variants.{Finalise, Initialise}
@@ -16,14 +16,14 @@ use Rattle.rules.specs.Record.{blank, active, finalised}
 use Rattle.desk.specs.Verdict.{Question, height-in}
 use Rattle.safety.specs.Calls.{Keeper, Call}
 use Rattle.safety.specs.Histories.{Event, At, Judged, keeper-after, called, _∈_}
-use Rattle.safety.specs.Hashed.{Hashed, before-hashed, rack-string, roll-string, roll-in}
-use Rattle.safety.proofs.Views.{Reaches, Grows, Most, enter-of, leave-of, roll-name, Receipt, of-new, of-append, of-read}
+use Rattle.safety.specs.Hashed.{Hashed, before-hashed}
+use Rattle.safety.proofs.Views.{roll-in, string-of, Reaches, Grows, Most, enter-of, leave-of, roll-name, Receipt, of-new, of-append, of-read}
 use Rattle.safety.proofs.Tales.{Said, now-said, before-said, says}
 
 -- an old keeper's part in a handover: what it said, and that its rows are reached
 pub record Hands (start : List ℕ → Keeper) (h : List Event) (identity previous own : List ℕ) (roll : Roll) (key : List ℕ) : Type 0 where
   pub last : Roll
-  pub hashed : Hashed start (roll-string last) h
+  pub hashed : Hashed start (string-of last) h
   pub said : Said start key (leave-of identity previous own (roll-name last)) h
   pub grew : Grows last roll
 
@@ -56,7 +56,7 @@ pub data Live (k : Keeper) : Type 0 where
 -- what a statement that was said says of the record now
 pub data Stands (start : List ℕ → Keeper) (h : List Event) (k : Keeper) (v : Statement) : Type 0 where
   entering : (roll : List ℕ) → (k .head .status ≡ blank → ⊥) → v ≡ enter-of (k .head .identity) (k .head .previous) (k .head .own) roll → Stands start h k v
-  leaving : k .head .status ≡ finalised → Hashed start (roll-string (roll-in k)) h
+  leaving : k .head .status ≡ finalised → Hashed start (string-of (roll-in k)) h
       → v ≡ leave-of (k .head .identity) (k .head .own) (k .head .next) (roll-name (roll-in k)) → Stands start h k v
   noting : Live k → Receipt (v .kind) → v .identity ≡ k .head .identity → v .own ≡ k .head .own
       → Reaches (roll-in k) (v .label) (height-in (v .kind)) (v .tail) → Stands start h k v

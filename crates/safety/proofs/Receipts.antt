@@ -23,8 +23,7 @@ use Rattle.rules.specs.declared.Head.{Head}
 use Rattle.rules.specs.Rows.{receipt-of}
 use Rattle.safety.specs.Calls.{Keeper}
 use Rattle.safety.specs.Histories.{_∈_, at-front, behind}
-use Rattle.safety.specs.Hashed.{roll-in}
-use Rattle.safety.proofs.Views.{Notes, of-new, of-append, of-read, standing, look}
+use Rattle.safety.proofs.Views.{roll-in, Notes, of-new, of-append, of-read, standing, look}
 use Rattle.safety.proofs.Sizes.{Whole, Back, back}
 use Rattle.rules.proofs.FoundRows.{row-below}
 

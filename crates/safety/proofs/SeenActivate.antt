@@ -2,9 +2,7 @@
 use mathlib.Core.Path.{_≡_, refl, ap, subst}
 use mathlib.Core.Bool.{true}
 use mathlib.Core.List.{List, [], _∷_, map}
-use Prim.Native.Nat.{ℕ, zero, suc, _<_}
-use native.Mathlib.Decide.{decLt}
-use native.Mathlib.Nat.{not-suc-le-zero}
+use Prim.Native.Nat.{ℕ, _<_}
 use native.Mathlib.Omega.{arith}
 use Rattle.refusals.specs.{signature-not-valid, initialise-not-valid}
 use Rattle.octets.specs.Layouts.{holds}
@@ -13,6 +11,7 @@ use Rattle.marks.specs.{attested, valid}
 use Rattle.marks.specs.Entries.{pair-position, pair-marks}
 use Rattle.marks.proofs.Listed.{in-rack, next-higher}
 use Rattle.marks.proofs.Refused.{none-refused, unrefused}
+use Rattle.rack.specs.Racks.{rack-string}
 use Rattle.rows.specs.Table.{each, rows-fit}
 use Rattle.roll.specs.Roll.{roll-layout}
 use Rattle.statement.specs.declared.Statement.{Statement}
@@ -26,10 +25,11 @@ use Rattle.rules.specs.Activate.{rack-size, own-roll, acting, activating}
 use Rattle.rules.specs.Check.{old-statement}
 use Rattle.rules.proofs.Activated.{Bundled, Handing, both-tests}
 use Rattle.safety.specs.Calls.{Keeper, Call, Activate, lent, outcome-of, left-by, accepts, statements-in}
-use Rattle.safety.specs.Histories.{_∈_, at-front, behind}
-use Rattle.safety.specs.Chip.{key-at}
-use Rattle.safety.specs.Hashed.{rack-string, roll-string, roll-in, old-rolls, hashed-by}
-use Rattle.safety.proofs.Views.{View, activates, Grows, Handed, enter-of, leave-of, roll-name}
+use Rattle.safety.specs.Histories.{_∈_, at-front, behind, listed}
+use Rattle.safety.specs.Chip.{Claim, key-at, old-claim, new-claim, claims-by}
+use Rattle.safety.specs.Hashed.{old-string, hashed-by}
+use Rattle.safety.proofs.Members.{in-listed, in-left, in-right}
+use Rattle.safety.proofs.Views.{roll-in, string-of, View, activates, Grows, Handed, enter-of, leave-of, roll-name}
 use Rattle.safety.proofs.Tales.{says}
 use Rattle.safety.proofs.Ended.{unless-refused, Gives, gives, seen-by}
 use Rattle.safety.proofs.Sizes.{Whole, roll-digest-long, enter-back, leave-back}
@@ -50,15 +50,6 @@ roll-grows k s i h fit rolls d =
     (λ r. digests s (list-of (ours .count) i r)) (λ r. added s (list-of (ours .count) i r))
     (and-left a b e) (and-right a b e)
 
-in-old-rolls : (s : List ℕ) (n i : ℕ) → i < n → roll-string (roll-of s i) ∈ old-rolls s n
-unfolding old-rolls
-in-old-rolls s zero i h = absurd (not-suc-le-zero h)
-in-old-rolls s (suc n) i h = go (λ l. in-old-rolls s n i l) (decLt i n)
-  where
-    go : (i < n → roll-string (roll-of s i) ∈ old-rolls s n) → Dec (i < n) → roll-string (roll-of s i) ∈ (roll-string (roll-of s n) ∷ old-rolls s n)
-    go earlier (yes l) = behind (earlier l)
-    go earlier (no l) = let e : n ≡ i = omega arith in rw e at-front
-
 module _ (Hashes : List ℕ → Type 0) (Said : List ℕ → Statement → Type 0) (key : List ℕ) (k : Keeper) (previous own s : List ℕ) where
   abbrev this : Call
   this = Activate previous own s
@@ -66,11 +57,25 @@ module _ (Hashes : List ℕ → Type 0) (Said : List ℕ → Statement → Type 
   abbrev Looks : Type 0
   Looks = View Hashes Said k (left-by key k this) (says key k this)
 
-  module _ (whole : Whole (k .head)) (hashes : accepts key k this ≡ true → (t : List ℕ) → t ∈ hashed-by k (left-by key k this) this → Hashes t)
-      (olds : accepts key k this ≡ true → (i : ℕ) → i < old-count s → attested (old-marks s i) ≡ true → valid (old-marks s i) ≡ true
-      → Said (key-at previous (old-position s i)) (cut-statement (old-statement (k .head) s i)))
-      (news : accepts key k this ≡ true → (i : ℕ) → i < new-count s → attested (pair-marks (new-entries s) i) ≡ true → valid (pair-marks (new-entries s) i) ≡ true
-      → Said (key-at own (pair-position (new-entries s) i)) (cut-statement (initialise-statement (k .head) (k .table)))) where
+  module _ (whole : Whole (k .head)) (hashes : accepts key k this ≡ true → (t : List ℕ) → t ∈ hashed-by k this → Hashes t)
+      (vows : accepts key k this ≡ true → (c : Claim) → c ∈ claims-by k this → attested (c .marks) ≡ true → valid (c .marks) ≡ true
+      → Said (c .key) (cut-statement (c .statement))) where
+    olds :
+        accepts key k this ≡ true → (i : ℕ) → i < old-count s → attested (old-marks s i) ≡ true → valid (old-marks s i) ≡ true
+        → Said (key-at previous (old-position s i)) (cut-statement (old-statement (k .head) s i))
+    unfolding claims-by old-claim
+    olds e i h =
+        vows e (old-claim k previous s i)
+        (in-left (listed (new-count s) (new-claim k own s)) (in-listed (old-claim k previous s) (old-count s) i h))
+
+    news :
+        accepts key k this ≡ true → (i : ℕ) → i < new-count s → attested (pair-marks (new-entries s) i) ≡ true → valid (pair-marks (new-entries s) i) ≡ true
+        → Said (key-at own (pair-position (new-entries s) i)) (cut-statement (initialise-statement (k .head) (k .table)))
+    unfolding claims-by new-claim
+    news e i h =
+        vows e (new-claim k own s i)
+        (in-right (listed (old-count s) (old-claim k previous s)) (in-listed (new-claim k own s) (new-count s) i h))
+
     old-cut : (i : ℕ) → cut-statement (old-statement (k .head) s i) ≡ leave-of (k .head .identity) (k .head .previous) (k .head .own) (roll-name (roll-of s i))
     unfolding finalise-statement old-statement
     old-cut i =
@@ -84,16 +89,20 @@ module _ (Hashes : List ℕ → Type 0) (Said : List ℕ → Statement → Type 
         (whole .identity) (whole .previous) (whole .own) (roll-digest-long (k .head .count) (k .table)) .cut
 
     module _ (g : Gives key k this [] (acting (k .head)) (k .table) []) (b : Bundled (lent k []) previous own s) (w : Handing (lent k []) previous own s) where
-      hashed-here : (t : List ℕ) → t ∈ (rack-string previous ∷ rack-string own ∷ roll-string (roll-in k) ∷ old-rolls s (old-count s)) → Hashes t
+      hashed-here : (t : List ℕ) → t ∈ (rack-string previous ∷ rack-string own ∷ listed (old-count s) (old-string s)) → Hashes t
       unfolding hashed-by
       hashed-here t m = hashes (g .accepts-it) t m
+
+      old-hashed : (i : ℕ) → i < old-count s → Hashes (string-of (roll-of s i))
+      unfolding old-string
+      old-hashed i h = hashed-here (old-string s i) (behind (behind (in-listed (old-string s) (old-count s) i h)))
 
       handed-by : (i : ℕ) → i < old-count s → Handed Hashes Said k (key-at previous (old-position s i))
       handed-by i h =
           let m = unrefused signature-not-valid (omega arith) (old-marks s i) (none-refused signature-not-valid (omega arith) (old-marks s) (old-count s) i h (w .olds-marked)) in
           record {
             roll = roll-of s i;
-            hashed = hashed-here (roll-string (roll-of s i)) (behind (behind (behind (in-old-rolls s (old-count s) i h))));
+            hashed = old-hashed i h;
             said = subst (Said (key-at previous (old-position s i))) (old-cut i) (olds (g .accepts-it) i h (m .0) (m .1));
             grew = roll-grows (lent k []) s i h (b .fit) (b .rolls) (w .derives);
           }

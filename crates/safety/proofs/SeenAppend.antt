@@ -2,6 +2,7 @@
 use mathlib.Core.Path.{_≡_, refl, ap, _∙_}
 use mathlib.Core.Bool.{not}
 use mathlib.Core.List.{List, [], _∷_, map}
+use lib.ListN.{length}
 use Prim.Native.Nat.{ℕ}
 use native.Mathlib.Omega.{arith}
 use Rattle.statement.specs.declared.Kind.the-variants.{Append}
@@ -13,10 +14,9 @@ use Rattle.rules.specs.Rows.{present-tail, present-height}
 use Rattle.rules.specs.Append.{append-refusal, next-tail, next-height, moved-on, append-statement, appending}
 use Rattle.rules.proofs.FoundRows.{row-labelled}
 use Rattle.rules.proofs.Noted.{row-of, Appendable, appendable}
-use Rattle.safety.specs.Calls.{Keeper, Call, lent, outcome-of, left-by, statements-in, Sized}
+use Rattle.safety.specs.Calls.{Keeper, Call, lent, outcome-of, left-by, statements-in}
 use Rattle.safety.specs.Calls as calls
-use Rattle.safety.specs.Hashed.{roll-in}
-use Rattle.safety.proofs.Views.{View, notes, Grows, look, standing}
+use Rattle.safety.proofs.Views.{roll-in, View, notes, Grows, look, standing}
 use Rattle.safety.proofs.Tales.{says}
 use Rattle.safety.proofs.Ended.{unless-refused, Gives, gives, seen-by, alone-in}
 use Rattle.safety.proofs.Sizes.{Whole, appended-long}
@@ -40,10 +40,10 @@ module _ (k : Keeper) (label entry area : List ℕ) (a : Appendable (lent k area
       moved-grows (k .head .count) (k .table) (row-of (lent k area) label) (next-tail (lent k area) label entry) (next-height (lent k area) label)
       (a .has .within) (appended-long (present-tail (lent k area) label) entry) (omega (arith, a .below-top)) (omega arith)
 
-  pub append-said : Whole (k .head) → Sized label-bytes label → Signed appended-to receipt-size (append-statement (lent k area) label entry)
+  pub append-said : Whole (k .head) → length label ≡ label-bytes → Signed appended-to receipt-size (append-statement (lent k area) label entry)
   unfolding append-statement
   append-said whole sized =
-      append-signed (k .head) whole label (next-tail (lent k area) label entry) (sized .long) (appended-long (present-tail (lent k area) label) entry)
+      append-signed (k .head) whole label (next-tail (lent k area) label entry) (sized) (appended-long (present-tail (lent k area) label) entry)
       appended-to refl refl (next-height (lent k area) label) (ap not (row-labelled label (present-tail (lent k area) label) (present-height (lent k area) label) (a .has .holds)))
       (omega arith) (omega (arith, a .below-top)) append-shows
 
@@ -60,7 +60,7 @@ module _ (Hashes : List ℕ → Type 0) (Said : List ℕ → Statement → Type 
   abbrev Looks : Type 0
   Looks = View Hashes Said k (left-by key k this) (says key k this)
 
-  module _ (whole : Whole (k .head)) (sized : Sized label-bytes label) where
+  module _ (whole : Whole (k .head)) (sized : length label ≡ label-bytes) where
     noting : Appendable (lent k area) label → Gives key k this word (k .head) (moved-on (lent k area) label entry) area → Looks
     unfolding statements-in
     noting a g =

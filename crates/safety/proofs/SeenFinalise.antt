@@ -19,8 +19,8 @@ use Rattle.rules.specs.Finalise.{finalise-size, finalise-statement, last-words,
 use Rattle.rules.proofs.Finalised.{was-active}
 use Rattle.safety.specs.Calls.{Keeper, Call, Finalise, lent, outcome-of, left-by, accepts, statements-in}
 use Rattle.safety.specs.Histories.{_∈_, at-front}
-use Rattle.safety.specs.Hashed.{roll-string, roll-in, hashed-by}
-use Rattle.safety.proofs.Views.{View, closes, idles, leave-of}
+use Rattle.safety.specs.Hashed.{hashed-by}
+use Rattle.safety.proofs.Views.{roll-in, string-of, View, closes, idles, leave-of}
 use Rattle.safety.proofs.Tales.{says}
 use Rattle.safety.proofs.Ended.{unless-refused, again-idles, Gives, gives, seen-by, first-in}
 use Rattle.safety.proofs.Sizes.{Whole, rack-digest-long, roll-digest-long, Back, leave-back}
@@ -38,7 +38,7 @@ module _ (Hashes : List ℕ → Type 0) (Said : List ℕ → Statement → Type 
   abbrev Looks : Type 0
   Looks = View Hashes Said k (left-by key k this) (says key k this)
 
-  module _ (whole : Whole (k .head)) (hashes : accepts key k this ≡ true → (s : List ℕ) → s ∈ hashed-by k (left-by key k this) this → Hashes s) where
+  module _ (whole : Whole (k .head)) (hashes : accepts key k this ≡ true → (s : List ℕ) → s ∈ hashed-by k this → Hashes s) where
     word-back : Back word
     word-back =
         leave-back (k .head .identity) (rack-digest next) (k .head .own) (roll-digest (k .head .count) (k .table))
@@ -51,11 +51,9 @@ module _ (Hashes : List ℕ → Type 0) (Said : List ℕ → Statement → Type 
         ∙ ap (λ (s : List ℕ). cut-statement s ∷ []) (first-in area (statement-written word) handover-size (word-back .long) _)
         ∙ ap (λ (v : Statement). v ∷ []) (word-back .cut)
 
-    roll-in-hash : (g : Gives key k this (last-words new-head (k .table)) new-head (k .table) area) → Hashes (roll-string (roll-in k))
+    roll-in-hash : (g : Gives key k this (last-words new-head (k .table)) new-head (k .table) area) → Hashes (string-of (roll-in k))
     unfolding hashed-by
-    roll-in-hash g =
-        hashes (g .accepts-it) (roll-string (roll-in k))
-        (subst (λ (x : Keeper). roll-string (roll-in k) ∈ hashed-by k x this) (sym (g .leaves)) at-front)
+    roll-in-hash g = hashes (g .accepts-it) (string-of (roll-in k)) at-front
 
     closing : finalise-refusal (lent k area) next ≡ accepted → outcome-of key k this ≡ given (last-words new-head (k .table)) new-head (k .table) area → Looks
     closing e o =

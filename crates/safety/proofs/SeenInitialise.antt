@@ -1,7 +1,8 @@
 -- Initialise founds a rack or prepares a keeper. Assumes nothing.
-use mathlib.Core.Path.{_≡_, refl, sym, ap, subst, _∙_}
-use mathlib.Core.Bool.{Bool, true, false, not, cond}
+use mathlib.Core.Path.{_≡_, refl, ap, _∙_}
+use mathlib.Core.Bool.{Bool, true, false, cond}
 use mathlib.Core.List.{List, [], _∷_, map}
+use lib.ListN.{length}
 use Prim.Native.Nat.{ℕ}
 use Rattle.refusals.specs.Order.{first}
 use Rattle.rows.specs.Digests.{roll-digest}
@@ -13,9 +14,7 @@ use Rattle.rules.specs.declared.Head.{Head}
 use Rattle.rules.specs.Record.{blank}
 use Rattle.rules.specs.Initialise.{absent, initialise-refusal, initialise-statement, founded, preparing, entered, initialising}
 use Rattle.rules.proofs.Initialised.{initialisable}
-use Rattle.safety.specs.Calls.{Keeper, Call, Initialise, lent, outcome-of, left-by, accepts, statements-in, Sized}
-use Rattle.safety.specs.Histories.{_∈_, at-front, behind}
-use Rattle.safety.specs.Hashed.{rack-string, hashed-by}
+use Rattle.safety.specs.Calls.{Keeper, Call, Initialise, lent, outcome-of, left-by, statements-in}
 use Rattle.safety.proofs.Views.{View, founds, prepares, enter-of}
 use Rattle.safety.proofs.Tales.{says}
 use Rattle.safety.proofs.Ended.{unless-refused, Gives, gives, seen-by, alone-in}
@@ -26,8 +25,8 @@ module _ (h : Head) (own : List ℕ) where
   pub founded-whole : Whole (founded h own)
   founded-whole = record { identity = rack-digest-long own; own = rack-digest-long own; previous = refl }
 
-  pub preparing-whole : (identity : List ℕ) (count : ℕ) (previous : List ℕ) → Sized digest-bytes identity → Whole (preparing h identity count previous own)
-  preparing-whole identity count previous sized = record { identity = sized .long; own = rack-digest-long own; previous = rack-digest-long previous }
+  pub preparing-whole : (identity : List ℕ) (count : ℕ) (previous : List ℕ) → length identity ≡ digest-bytes → Whole (preparing h identity count previous own)
+  preparing-whole identity count previous sized = record { identity = sized; own = rack-digest-long own; previous = rack-digest-long previous }
 
 module _ (Hashes : List ℕ → Type 0) (Said : List ℕ → Statement → Type 0) (key : List ℕ) (k : Keeper) (identity roll previous own area : List ℕ) where
   abbrev this : Call
@@ -57,33 +56,27 @@ module _ (Hashes : List ℕ → Type 0) (Said : List ℕ → Statement → Type 
       seen-by (g .leaves) (said-so (founded (k .head) own) (k .table) (founded-whole (k .head) own) g)
       (founds (record { was = was; is = refl; founds = refl; first = refl; says = refl }))
 
-  module _ (sized : Sized digest-bytes identity) (hashes : accepts key k this ≡ true → (s : List ℕ) → s ∈ hashed-by k (left-by key k this) this → Hashes s) where
+  module _ (sized : length identity ≡ digest-bytes) where
     abbrev new-head : Head
     new-head = preparing (k .head) identity (roll-layout .cut roll .count) previous own
 
     abbrev new-table : List ℕ
     new-table = roll-layout .cut roll .rows
 
-    previous-hashed : absent previous ≡ false → Gives key k this (initialise-statement new-head new-table) new-head new-table area → Hashes (rack-string previous)
-    unfolding hashed-by
-    previous-hashed e g =
-        hashes (g .accepts-it) (rack-string previous)
-        (behind (behind (subst (λ (b : Bool). rack-string previous ∈ cond b [] (rack-string previous ∷ [])) (sym e) at-front)))
-
-    prepared-so : k .head .status ≡ blank → absent previous ≡ false → outcome-of key k this ≡ entered (lent k area) new-head new-table → Looks
-    prepared-so was e o =
+    prepared-so : k .head .status ≡ blank → outcome-of key k this ≡ entered (lent k area) new-head new-table → Looks
+    prepared-so was o =
         let g = entering new-head new-table o in
         seen-by (g .leaves) (said-so new-head new-table (preparing-whole (k .head) own identity (roll-layout .cut roll .count) previous sized) g)
-        (prepares (record { was = was; is = refl; old = previous; old-is = refl; old-hashed = previous-hashed e g; says = refl }))
+        (prepares (record { was = was; is = refl; says = refl }))
 
     pub seen-initialise : Looks
     unfolding outcome-of initialising
     seen-initialise =
         unless-refused key k this Hashes Said (initialise-refusal (lent k area) roll previous own) 0 area _ refl
-        (λ e o. let i = initialisable (lent k area) roll previous own e in go (absent roll) (i .was) (i .paired) o)
+        (λ e o. let i = initialisable (lent k area) roll previous own e in go (absent roll) (i .was) o)
       where
         go :
-            (b : Bool) → k .head .status ≡ blank → cond b (not (absent previous)) (absent previous) ≡ false
+            (b : Bool) → k .head .status ≡ blank
             → outcome-of key k this ≡ cond b (entered (lent k area) (founded (k .head) own) (k .table)) (entered (lent k area) new-head new-table) → Looks
-        go true was paired o = founding was o
-        go false was paired o = prepared-so was paired o
+        go true was o = founding was o
+        go false was o = prepared-so was o

@@ -2,6 +2,7 @@
 use mathlib.Core.Path.{_≡_, refl, ap, _∙_}
 use mathlib.Core.Bool.{true, not}
 use mathlib.Core.List.{List, [], _∷_, map}
+use lib.ListN.{length}
 use Prim.Native.Nat.{ℕ}
 use Rattle.octets.specs.Strings.{all-zero}
 use Rattle.statement.specs.declared.Kind.the-variants.{New}
@@ -14,7 +15,7 @@ use Rattle.rules.specs.Table.{smaller, widened}
 use Rattle.rules.specs.Rows.{receipt-of}
 use Rattle.rules.specs.New.{one-more, new-refusal, making}
 use Rattle.rules.proofs.Noted.{Makeable, makeable}
-use Rattle.safety.specs.Calls.{Keeper, Call, lent, outcome-of, left-by, statements-in, Sized}
+use Rattle.safety.specs.Calls.{Keeper, Call, lent, outcome-of, left-by, statements-in}
 use Rattle.safety.specs.Calls as calls
 use Rattle.safety.proofs.Views.{View, notes}
 use Rattle.safety.proofs.Tales.{says}
@@ -40,21 +41,21 @@ module _ (Hashes : List ℕ → Type 0) (Said : List ℕ → Statement → Type 
   abbrev Looks : Type 0
   Looks = View Hashes Said k (left-by key k this) (says key k this)
 
-  module _ (whole : Whole (k .head)) (sized : Sized label-bytes label) where
+  module _ (whole : Whole (k .head)) (sized : length label ≡ label-bytes) where
     noting : Makeable (lent k area) label → Gives key k this word (one-more (k .head)) (widened (k .table) place label) area → Looks
     unfolding statements-in
     noting m g =
         let most = smaller-most (k .head .count) (k .table) label in
         let nonzero : not (all-zero label) ≡ true = ap not (m .labelled) in
         let s : Signed left receipt-size word =
-        new-signed (k .head) whole label no-digest (sized .long) refl left refl refl nonzero refl
-        (widened-shows (k .head .count) (k .table) label place (m .fit) (m .few) most (sized .long) (m .new)) in
+        new-signed (k .head) whole label no-digest (sized) refl left refl refl nonzero refl
+        (widened-shows (k .head .count) (k .table) label place (m .fit) (m .few) most (sized) (m .new)) in
         seen-by (g .leaves) (ap (map cut-statement) (g .signs) ∙ ap (λ (t : List ℕ). cut-statement t ∷ []) (alone-in area word receipt-size (s .long)))
         (notes (record {
           was = m .was;
           is = m .was;
           stays = record { identity = refl; own = refl; previous = refl };
-          grows = widened-grows (k .head .count) (k .table) label place (m .fit) (m .few) most (sized .long) (m .new);
+          grows = widened-grows (k .head .count) (k .table) label place (m .fit) (m .few) most (sized) (m .new);
           notes = notes-one left (cut-statement word) (s .shows);
         }))
 

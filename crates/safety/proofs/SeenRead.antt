@@ -3,7 +3,7 @@ use mathlib.Core.Path.{_≡_, refl, ap, ap₂, _∙_}
 use mathlib.Core.Bool.{true}
 use mathlib.Core.List.{List, [], _∷_, _++_, map}
 use Prim.Native.Nat.{ℕ, _+_}
-use lib.ListN.{take, drop}
+use lib.ListN.{length, take, drop}
 use Rattle.octets.specs.Numbers.{number-of}
 use Rattle.rows.specs.Row.{row-holds}
 use Rattle.statement.specs.declared.Statement.{Statement}
@@ -16,10 +16,9 @@ use Rattle.rules.specs.Append.{append-refusal, next-tail, next-height, moved-on
 use Rattle.rules.specs.Read.{read-kind, reading, appending-and-reading}
 use Rattle.rules.proofs.FoundRows.{row-labelled, row-next}
 use Rattle.rules.proofs.Noted.{row-of, Rowed, readable, Appendable, appendable}
-use Rattle.safety.specs.Calls.{Keeper, Call, lent, outcome-of, left-by, statements-in, Sized}
+use Rattle.safety.specs.Calls.{Keeper, Call, lent, outcome-of, left-by, statements-in}
 use Rattle.safety.specs.Calls as calls
-use Rattle.safety.specs.Hashed.{roll-in}
-use Rattle.safety.proofs.Views.{View, notes}
+use Rattle.safety.proofs.Views.{roll-in, View, notes}
 use Rattle.safety.proofs.Tales.{says}
 use Rattle.safety.proofs.Ended.{unless-refused, Gives, gives, seen-by, alone-in, first-in, next-in}
 use Rattle.safety.proofs.Sizes.{Whole, appended-long}
@@ -28,7 +27,7 @@ use Rattle.safety.proofs.RowsParts.{tail-long}
 use Rattle.safety.proofs.Receipts.{Signed, read-signed, notes-one, notes-two}
 use Rattle.safety.proofs.SeenAppend.{append-shows, append-grows, append-said}
 
-module _ (Hashes : List ℕ → Type 0) (Said : List ℕ → Statement → Type 0) (key : List ℕ) (k : Keeper) (whole : Whole (k .head)) (label : List ℕ) (sized : Sized label-bytes label) where
+module _ (Hashes : List ℕ → Type 0) (Said : List ℕ → Statement → Type 0) (key : List ℕ) (k : Keeper) (whole : Whole (k .head)) (label : List ℕ) (sized : length label ≡ label-bytes) where
   module _ (nonce area : List ℕ) where
     abbrev this : Call
     this = calls.Read label nonce area
@@ -43,7 +42,7 @@ module _ (Hashes : List ℕ → Type 0) (Said : List ℕ → Statement → Type 
     unfolding statements-in
     noting r g =
         let s : Signed k reading-size word =
-        read-signed (k .head) whole label (present-tail (lent k area) label) (sized .long) (tail-long (k .table) (row-of (lent k area) label) (r .within)) k refl refl
+        read-signed (k .head) whole label (present-tail (lent k area) label) (sized) (tail-long (k .table) (row-of (lent k area) label) (r .within)) k refl refl
         (present-height (lent k area) label) (number-of (take number-bytes nonce)) (number-of (drop number-bytes nonce)) (r .holds)
         (look-at (roll-in k) label (row-of (lent k area) label) (r .found)) in
         seen-by (g .leaves) (ap (map cut-statement) (g .signs) ∙ ap (λ (t : List ℕ). cut-statement t ∷ []) (alone-in area word reading-size (s .long)))
@@ -85,7 +84,7 @@ module _ (Hashes : List ℕ → Type 0) (Said : List ℕ → Statement → Type 
         let holds : row-holds label (next-tail (lent k area) label entry) (next-height (lent k area) label) ≡ true =
         row-next label (next-tail (lent k area) label entry) (present-height (lent k area) label) named (a .below-top) in
         let t : Signed left reading-size next-word =
-        read-signed (k .head) whole label (next-tail (lent k area) label entry) (sized .long) (appended-long (present-tail (lent k area) label) entry) left refl refl
+        read-signed (k .head) whole label (next-tail (lent k area) label entry) (sized) (appended-long (present-tail (lent k area) label) entry) left refl refl
         (next-height (lent k area) label) (number-of (take number-bytes nonce)) (number-of (drop number-bytes nonce)) holds (append-shows k label entry area a) in
         seen-by (g .leaves)
         (ap (map cut-statement) (g .signs)

@@ -13,7 +13,7 @@ use Rattle.marks.specs.{attested, valid}
 use Rattle.marks.specs.Entries.{entries-fit, pair-position, pair-marks}
 use Rattle.marks.proofs.Listed.{in-rack, next-higher}
 use Rattle.marks.proofs.Refused.{none-refused, unrefused}
-use Rattle.rack.specs.Racks.{rack-cut}
+use Rattle.rack.specs.Racks.{rack-cut, rack-string}
 use Rattle.statement.specs.declared.Kind.{Kind}
 use Rattle.statement.specs.declared.Kind.the-variants.{Blank, New, Append, Read, Finalise, Initialise}
 use Rattle.statement.specs.declared.Statement.{Statement}
@@ -22,10 +22,10 @@ use Rattle.statement.specs.Cut.{cut-statement}
 use Rattle.desk.specs.declared.Finding.{Finding}
 use Rattle.desk.specs.Verdict.{Question, signer-count, signers-fit, height-in, verdict-refusal, nothing-shown, shown, judging}
 use Rattle.desk.proofs.Vouches.{vouched, asked}
-use Rattle.safety.specs.Histories.{Event}
-use Rattle.safety.specs.Chip.{key-at}
-use Rattle.safety.specs.Hashed.{rack-string}
+use Rattle.safety.specs.Histories.{Event, _∈_, listed}
+use Rattle.safety.specs.Chip.{Claim, key-at, signer-claim}
 use Rattle.safety.specs.Demand.{Accepted}
+use Rattle.safety.proofs.Members.{in-listed}
 use Rattle.safety.proofs.Views.{Receipt, of-new, of-append, of-read, Vouched}
 use Rattle.safety.proofs.Tales.{Verdict-on}
 
@@ -60,8 +60,14 @@ module _ (q : Question) (s signers : List ℕ) where
 
   module _ (Hashes : List ℕ → Type 0) (Said : List ℕ → Statement → Type 0)
       (hashes : Hashes (rack-string (q .rack)))
-      (vows : (i : ℕ) → i < signer-count signers → attested (pair-marks signers i) ≡ true → valid (pair-marks signers i) ≡ true
-      → Said (key-at (q .rack) (pair-position signers i)) (cut-statement s)) where
+      (vows : (c : Claim) → c ∈ listed (signer-count signers) (signer-claim q s signers) → attested (c .marks) ≡ true → valid (c .marks) ≡ true
+      → Said (c .key) (cut-statement (c .statement))) where
+    signed :
+        (i : ℕ) → i < signer-count signers → attested (pair-marks signers i) ≡ true → valid (pair-marks signers i) ≡ true
+        → Said (key-at (q .rack) (pair-position signers i)) (cut-statement s)
+    unfolding signer-claim
+    signed i h = vows (signer-claim q s signers i) (in-listed (signer-claim q s signers) (signer-count signers) i h)
+
     pub seen-verdict : judging q s signers .number ≡ accepted → Vouched Hashes Said (cut-statement s)
     seen-verdict e =
         let j = vouched q s signers (accepted-so e .0) in
@@ -82,7 +88,7 @@ module _ (q : Question) (s signers : List ℕ) where
             rising = next-higher n (pair-position signers) (pair-marks signers) c fits;
             each-one = λ i h.
                 let m = unrefused signature-not-valid (omega arith) (pair-marks signers i) (none-refused signature-not-valid (omega arith) (pair-marks signers) c i h (j .marked)) in
-                vows i h (m .0) (m .1);
+                signed i h (m .0) (m .1);
           };
         }
 

@@ -12,10 +12,10 @@ use Rattle.rows.specs.Row.{label-of, tail-of, height-of}
 use Rattle.rows.specs.declared.Found.{Found}
 use Rattle.rows.specs.declared.Found.the-variants.{At, Absent}
 use Rattle.rows.specs.Search.{held, or-else, first-of, find}
+use Rattle.rows.specs.Digests.{roll-string}
 use Rattle.rows.proofs.Searches.{first-is}
 use Rattle.roll.specs.Roll.{Roll}
-use Rattle.safety.specs.Hashed.{roll-string}
-use Rattle.safety.proofs.Views.{standing, seen-at, look, Reaches, Grows}
+use Rattle.safety.proofs.Views.{string-of, standing, seen-at, look, Reaches, Grows}
 
 -- what is reached in a roll is reached where it grew
 pub reached-on : {v w : Roll} {label : List ℕ} {height : ℕ} {tail : List ℕ} → Grows v w → Reaches v label height tail → Reaches w label height tail
@@ -89,17 +89,17 @@ module _ (n : ℕ) (a b : List ℕ) (e : take (row-bytes * n) a ≡ take (row-by
   find-same : (label : List ℕ) → seen-at a (first-of n a label) ≡ seen-at b (first-of n b label)
   find-same label = seen-same (first-of n a label) label refl ∙ ap (seen-at b) (first-same n label (omega arith))
 
-string-count : (v w : Roll) → roll-string v ≡ roll-string w → held (v .count) (v .rows) ≡ held (w .count) (w .rows)
+string-count : (v w : Roll) → string-of v ≡ string-of w → held (v .count) (v .rows) ≡ held (w .count) (w .rows)
 unfolding roll-string
 string-count v w e = cc
 
-string-rows : (v w : Roll) → roll-string v ≡ roll-string w
+string-rows : (v w : Roll) → string-of v ≡ string-of w
     → take (row-bytes * held (v .count) (v .rows)) (v .rows) ≡ take (row-bytes * held (w .count) (w .rows)) (w .rows)
 unfolding roll-string
 string-rows v w e = cc
 
 -- rolls with one string show the same
-pub look-same : (v w : Roll) → roll-string v ≡ roll-string w → (label : List ℕ) → look v label ≡ look w label
+pub look-same : (v w : Roll) → string-of v ≡ string-of w → (label : List ℕ) → look v label ≡ look w label
 unfolding look find
 look-same v w e label =
     let c = string-count v w e in
@@ -107,6 +107,6 @@ look-same v w e label =
     = string-rows v w e ∙ ap (λ (n : ℕ). take (row-bytes * n) (w .rows)) (sym c) in
     find-same (held (v .count) (v .rows)) (v .rows) (w .rows) r label ∙ ap (λ (n : ℕ). seen-at (w .rows) (first-of n (w .rows) label)) c
 
-pub reached-in : {v w : Roll} {label : List ℕ} {height : ℕ} {tail : List ℕ} → roll-string v ≡ roll-string w → Reaches v label height tail → Reaches w label height tail
+pub reached-in : {v w : Roll} {label : List ℕ} {height : ℕ} {tail : List ℕ} → string-of v ≡ string-of w → Reaches v label height tail → Reaches w label height tail
 reached-in {v} {w} {label} e r =
     record { top = r .top; last = r .last; shows = sym (look-same v w e label) ∙ r .shows; up = r .up; agrees = r .agrees }

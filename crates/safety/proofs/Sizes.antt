@@ -7,7 +7,7 @@ use lib.ListN.{length}
 use Rattle.octets.specs.Strings.{all-zero}
 use Rattle.hash.proofs.Promised.{sha256-length}
 use Rattle.rack.specs.Racks.{rack-digest}
-use Rattle.rows.specs.Digests.{digest-of-rows, roll-digest, appended}
+use Rattle.rows.specs.Digests.{roll-digest, appended}
 use Rattle.statement.specs.declared.Statement.{Statement}
 use Rattle.statement.specs.Kinds.{digest-bytes, size}
 use Rattle.statement.specs.Contents.{statement-written, handover-fits, fits-as, statement-fits}
@@ -29,7 +29,7 @@ unfolding rack-digest
 rack-digest-long rack = sha256-length _
 
 pub roll-digest-long : (count : ℕ) (rows : List ℕ) → length (roll-digest count rows) ≡ digest-bytes
-unfolding digest-of-rows roll-digest
+unfolding roll-digest
 roll-digest-long count rows = sha256-length _
 
 pub appended-long : (tail entry : List ℕ) → length (appended tail entry) ≡ digest-bytes

@@ -10,8 +10,9 @@ use Rattle.rules.specs.Record.{blank, active, finalised}
 use Rattle.desk.specs.Verdict.{height-in}
 use Rattle.safety.specs.Calls.{Keeper}
 use Rattle.safety.specs.Histories.{Event, called, keeper-after, _∈_, at-front, behind}
-use Rattle.safety.specs.Hashed.{Hashed, rack-string, roll-string, roll-in}
-use Rattle.safety.proofs.Views.{standing, look, Reaches, Grows, enter-of, leave-of, roll-name, Receipt}
+use Rattle.rack.specs.Racks.{rack-string}
+use Rattle.safety.specs.Hashed.{Hashed}
+use Rattle.safety.proofs.Views.{roll-in, string-of, standing, look, Reaches, Grows, enter-of, leave-of, roll-name, Receipt}
 use Rattle.safety.proofs.Views.{Same-office, Notes, Founding, Preparing, Noting, Closing, Activating, Idle}
 use Rattle.safety.proofs.Tales.{Said, before-said}
 use Rattle.safety.proofs.Sights.{reached-on, reached-here, grows-here, grows-on, reached-tail}
@@ -55,7 +56,7 @@ pub record Left (start : List ℕ → Keeper) (h : List Event) (k : Keeper) (ide
   pub own-is : own ≡ k .head .own
   pub next-is : next ≡ k .head .next
   pub roll-is : roll ≡ roll-name (roll-in k)
-  pub hashed : Hashed start (roll-string (roll-in k)) h
+  pub hashed : Hashed start (string-of (roll-in k)) h
 
 pub left-stands : {start : List ℕ → Keeper} {h : List Event} {k : Keeper} {identity own next roll : List ℕ}
     → Stands start h k (leave-of identity own next roll) → Left start h k identity own next roll
@@ -169,7 +170,7 @@ module _ {start : List ℕ → Keeper} {h : List Event} (e : Event) {key : List 
       (λ l. subst (λ (x : List ℕ). Leads start (e ∷ h) (k' .head .identity) x) (sym (f .founds)) from-there)
       (λ l. from-first (f .first))
 
-  pub preparing-office : {Hashes : List ℕ → Type 0} → Preparing Hashes k k' said → Office start (e ∷ h) key k'
+  pub preparing-office : Preparing k k' said → Office start (e ∷ h) key k'
   preparing-office f =
       first-office (f .was) (λ z. omega (arith, f .is)) (f .says)
       (λ l. absurd (omega (arith, live-high l, f .is))) (λ l. absurd (omega (arith, live-high l, f .is)))
@@ -236,7 +237,7 @@ module _ {start : List ℕ → Keeper} {h : List Event} (e : Event) {key : List 
           live = λ l. is-finalised (n .is);
         })
         (λ v m.
-        leaving (n .is) (subst (λ (r : Roll). Hashed start (roll-string r) (e ∷ h)) (sym (n .roll-stays)) (hashes (roll-string (roll-in k)) (n .roll-hashed)))
+        leaving (n .is) (subst (λ (r : Roll). Hashed start (string-of r) (e ∷ h)) (sym (n .roll-stays)) (hashes (string-of (roll-in k)) (n .roll-hashed)))
         (one-in m (n .says) ∙ (λ i. leave-of (sym (n .stays .identity) i) (sym (n .stays .own) i) (k' .head .next) (roll-name (sym (n .roll-stays) i)))))
         (λ v m r. absurd (no-receipt-leaves r (ap (λ (x : Statement). x .kind) (one-in m (n .says)))))
         c (is-active (n .was))
@@ -253,7 +254,7 @@ module _ {start : List ℕ → Keeper} {h : List Event} (e : Event) {key : List 
             new = a .own;
             new-is = a .own-is;
             new-hashed = hashes (rack-string (a .own)) (a .own-hashed);
-            handed = most-map (λ other g. record { last = g .roll; hashed = hashes (roll-string (g .roll)) (g .hashed); said = before-said (g .said); grew = g .grew }) (a .handed);
+            handed = most-map (λ other g. record { last = g .roll; hashed = hashes (string-of (g .roll)) (g .hashed); said = before-said (g .said); grew = g .grew }) (a .handed);
             entered = most-map (λ other s. before-said s) (a .entered);
           }
 

@@ -2,12 +2,12 @@
 use mathlib.Core.Path.{_≡_}
 use mathlib.Core.List.{List, [], _∷_}
 use Prim.Native.Nat.{ℕ, suc, _≤_, _<_}
-use Rattle.rack.specs.Racks.{rack-cut, rack-digest, majority}
+use Rattle.rack.specs.Racks.{rack-cut, rack-string, rack-digest, majority}
 use Rattle.rows.specs.declared.Found.{Found}
 use Rattle.rows.specs.declared.Found.the-variants.{At, Absent}
 use Rattle.rows.specs.Row.{tail-of, height-of}
 use Rattle.rows.specs.Search.{find}
-use Rattle.rows.specs.Digests.{roll-digest}
+use Rattle.rows.specs.Digests.{roll-string, roll-digest}
 use Rattle.roll.specs.Roll.{Roll}
 use Rattle.statement.specs.declared.Kind.{Kind}
 use Rattle.statement.specs.declared.Kind.the-variants.{New, Append, Read, Finalise, Initialise}
@@ -19,7 +19,13 @@ use Rattle.safety.specs.Calls.{Keeper}
 use Rattle.safety.specs.Histories.{_∈_}
 use Rattle.safety.specs.Histories as histories
 use Rattle.safety.specs.Chip.{key-at}
-use Rattle.safety.specs.Hashed.{rack-string, roll-string, roll-in}
+
+-- a keeper's roll, and the string that a roll's digest is taken of
+abbrev pub roll-in : Keeper → Roll
+roll-in k = record { count = k .head .count; rows = k .table }
+
+abbrev pub string-of : Roll → List ℕ
+string-of v = roll-string (v .count) (v .rows)
 
 -- what a roll shows of a label
 pub data Seen : Type 0 where
@@ -93,13 +99,10 @@ pub record Founding (k k' : Keeper) (said : List Statement) : Type 0 where
   pub first : k' .head .previous ≡ no-digest
   pub says : said ≡ enter-of (k' .head .identity) (k' .head .previous) (k' .head .own) (roll-name (roll-in k')) ∷ []
 
--- a keeper is prepared to take over; `Hashes s` says that a string is hashed in this very call
-pub record Preparing (Hashes : List ℕ → Type 0) (k k' : Keeper) (said : List Statement) : Type 0 where
+-- a keeper is prepared to take over
+pub record Preparing (k k' : Keeper) (said : List Statement) : Type 0 where
   pub was : k .head .status ≡ blank
   pub is : k' .head .status ≡ prepared
-  pub old : List ℕ
-  pub old-is : k' .head .previous ≡ rack-digest old
-  pub old-hashed : Hashes (rack-string old)
   pub says : said ≡ enter-of (k' .head .identity) (k' .head .previous) (k' .head .own) (roll-name (roll-in k')) ∷ []
 
 -- rows are added, moved on or read, and what is signed shows them
@@ -110,19 +113,19 @@ pub record Noting (k k' : Keeper) (said : List Statement) : Type 0 where
   pub grows : Grows (roll-in k) (roll-in k')
   pub notes : (v : Statement) → v ∈ said → Notes k' v
 
--- the keeper hands over
+-- the keeper hands over; `Hashes s` says that a string is hashed in this very call
 pub record Closing (Hashes : List ℕ → Type 0) (k k' : Keeper) (said : List Statement) : Type 0 where
   pub was : k .head .status ≡ active
   pub is : k' .head .status ≡ finalised
   pub stays : Same-office k k'
   pub roll-stays : roll-in k' ≡ roll-in k
-  pub roll-hashed : Hashes (roll-string (roll-in k))
+  pub roll-hashed : Hashes (string-of (roll-in k))
   pub says : said ≡ leave-of (k .head .identity) (k .head .own) (k' .head .next) (roll-name (roll-in k)) ∷ []
 
 -- one of the old keepers that an activation rests on: what it signed, and that its rows are reached
 pub record Handed (Hashes : List ℕ → Type 0) (Said : List ℕ → Statement → Type 0) (k : Keeper) (key : List ℕ) : Type 0 where
   pub roll : Roll
-  pub hashed : Hashes (roll-string roll)
+  pub hashed : Hashes (string-of roll)
   pub said : Said key (leave-of (k .head .identity) (k .head .previous) (k .head .own) (roll-name roll))
   pub grew : Grows roll (roll-in k)
 
@@ -154,7 +157,7 @@ pub record Waking (k' : Keeper) (said : List Statement) : Type 0 where
 
 pub data View (Hashes : List ℕ → Type 0) (Said : List ℕ → Statement → Type 0) (k k' : Keeper) (said : List Statement) : Type 0 where
   founds : Founding k k' said → View Hashes Said k k' said
-  prepares : Preparing Hashes k k' said → View Hashes Said k k' said
+  prepares : Preparing k k' said → View Hashes Said k k' said
   notes : Noting k k' said → View Hashes Said k k' said
   closes : Closing Hashes k k' said → View Hashes Said k k' said
   activates : Activating Hashes Said k k' said → View Hashes Said k k' said

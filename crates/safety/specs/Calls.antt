@@ -1,8 +1,7 @@
--- A keeper's calls with their arguments, each by its rule, and the statements that a call returns for signing. 01, "Calls": "The chip signs once each statement that Initialise, New, Append, Read,
--- Append and read or Finalise gives, and none that Bytes to check gives."
-use mathlib.Core.Path.{_≡_}
+-- A keeper's calls with their arguments, each by its rule, and the statements that a call returns for signing. 01, "Calls": "The chip signs once each
+-- statement that Initialise, New, Append, Read, Append and read or Finalise gives, and none that Bytes to check gives."
 use mathlib.Core.Bool.{Bool, true, false, not, cond, _&&_}
-use mathlib.Core.List.{List, [], _∷_, _++_}
+use mathlib.Core.List.{List, [], _∷_}
 use Prim.Native.Nat.{ℕ}
 use lib.ListN.{length, take, drop}
 use lib.Dec.{eqb}
@@ -90,17 +89,14 @@ is-wake (Finalise next area) = false
 is-wake (Activate previous own bundle) = false
 is-wake (Bytes-to-check previous own bundle list entry area) = false
 
--- "Keys, digests, labels and nonces are taken at their fixed sizes."
-pub record Sized (n : ℕ) (s : List ℕ) : Type 0 where
-  pub long : length s ≡ n
-
-unfoldable pub Taken : Call → Type 0
-Taken Wake = Unit {0}
-Taken (Initialise identity roll previous own area) = Sized digest-bytes identity
-Taken (New label area) = Sized label-bytes label
-Taken (Append label entry expected area) = Sized label-bytes label × Sized digest-bytes entry
-Taken (Read label nonce area) = Sized label-bytes label × Sized label-bytes nonce
-Taken (Append-and-read label entry expected nonce area) = Sized label-bytes label × Sized digest-bytes entry × Sized label-bytes nonce
-Taken (Finalise next area) = Unit {0}
-Taken (Activate previous own bundle) = Unit {0}
-Taken (Bytes-to-check previous own bundle list entry area) = Unit {0}
+-- "Keys, digests, labels and nonces are taken at their fixed sizes": those that statements are written with
+unfoldable pub sized : Call → Bool
+sized Wake = true
+sized (Initialise identity roll previous own area) = eqb (length identity) digest-bytes
+sized (New label area) = eqb (length label) label-bytes
+sized (Append label entry expected area) = eqb (length label) label-bytes
+sized (Read label nonce area) = eqb (length label) label-bytes
+sized (Append-and-read label entry expected nonce area) = eqb (length label) label-bytes
+sized (Finalise next area) = true
+sized (Activate previous own bundle) = true
+sized (Bytes-to-check previous own bundle list entry area) = true

@@ -1,13 +1,14 @@
 -- Demand 3: "Then two accepted verdicts with one identity, ledger and height name the same tail, across any handovers."
 use mathlib.Core.Path.{_≡_}
+use mathlib.Core.Bool.{true}
 use mathlib.Core.List.{List}
 use Prim.Native.Nat.{ℕ}
 use Rattle.refusals.specs.{accepted}
 use Rattle.desk.specs.declared.Finding.{Finding}
 use Rattle.desk.specs.Verdict.{Question, judging}
 use Rattle.safety.specs.Calls.{Keeper}
-use Rattle.safety.specs.Histories.{Event, Judged, _∈_}
-use Rattle.safety.specs.Chip.{Lawful}
+use Rattle.safety.specs.Histories.{Event, Judged, orderly, _∈_}
+use Rattle.safety.specs.Chip.{Honest-chip}
 use Rattle.safety.specs.Hashed.{Told-apart}
 
 -- an accepted verdict of a history
@@ -25,7 +26,8 @@ pub record Accepted (h : List Event) (identity label : List ℕ) (height : ℕ) 
 abbrev pub Demand-3 : Type 0
 Demand-3 =
     (keepers : List (List ℕ)) (start : List ℕ → Keeper) (h : List Event)
-    → Lawful keepers start h
+    → orderly start h ≡ true
+    → Honest-chip keepers start h
     → Told-apart start h
     → (identity label : List ℕ) (height : ℕ) (t u : List ℕ)
     → Accepted h identity label height t

@@ -1,4 +1,5 @@
--- What demand 3 speaks of, in the order of its sentences: calls and what they return for signing, histories of calls, the chip's marks, the strings hashed, and the demand.
+-- What demand 3 speaks of, in the order of its sentences: calls and what they return for signing, histories of calls, the chip's marks, the strings hashed, and
+-- the demand.
 pub mod Calls
 pub mod Histories
 pub mod Chip

@@ -1,4 +1,5 @@
--- The rows of a table as the flat bytes over which the rules are stated, and back. 01, "Row": "label 16 bytes .., tail 32, height 8"; "Layouts": "Numbers are big-endian."
+-- The rows of a table as the flat bytes over which the rules are stated, and back. 01, "Row": "label 16 bytes .., tail 32, height 8"; "Layouts": "Numbers
+-- are big-endian."
 use mathlib.Core.List.{List, map, flatten, _++_}
 use Prim.Native.Nat.{ℕ, _+_}
 use lib.ListN.{take, drop}
@@ -18,7 +19,11 @@ flattened rows = flatten (map row-string rows)
 -- a row's bytes taken apart
 unfoldable pub row-cut : List ℕ → Row
 row-cut s =
-    record { label = take label-bytes s; tail = take tail-bytes (drop label-bytes s); height = number-of (take height-bytes (drop (label-bytes + tail-bytes) s)) }
+    record {
+      label = take label-bytes s;
+      tail = take tail-bytes (drop label-bytes s);
+      height = number-of (take height-bytes (drop (label-bytes + tail-bytes) s));
+    }
 
 -- the first n rows of a string
 unfoldable pub rows-of : ℕ → List ℕ → List Row

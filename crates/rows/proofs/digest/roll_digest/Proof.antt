@@ -5,7 +5,7 @@ use native.Mathlib.Omega.{arith}
 use denote.Ref.{now}
 use borrow.Author.Needs.{needs}
 use Rattle.rows.specs.Search.{held}
-use Rattle.rows.specs.Digests.{digest-of-rows, roll-digest}
+use Rattle.rows.specs.Digests.{digest-of-rows, roll-string, roll-digest}
 use Rattle.rows.proofs.Searches.{held-within, held-most}
 use Rattle.rows.proofs.digest.roll_digest.Statement.{statement}
 use Rattle.rows.proofs.digest.roll_digest.Tie as tie
@@ -20,7 +20,7 @@ digest-of-rows-requires c κs =
     omega (arith, held-within (a .count) (now (a .rows)), held-most (a .count) (now (a .rows)))
 
 returns : tie.Need-returns
-unfolding roll-digest
+unfolding digest-of-rows roll-string roll-digest
 returns c =
     let a = c .before .before .before .args in
     c .digest-of-rows .ensures ∙ ap (λ (n : ℕ). digest-of-rows n (now (a .rows))) (c .before .held .ensures)
