@@ -1,18 +1,19 @@
 -- The worked history meets the premises of demand 3 and has two accepted verdicts, on different statements and of different racks, with one identity, ledger and height. Assumes nothing.
 use mathlib.Core.Path.{_≡_, refl, ap}
+use mathlib.Core.Bool.{true}
 use mathlib.Core.List.{List}
 use Prim.Native.Nat.{ℕ}
 use Rattle.statement.specs.Cut.{no-digest}
 use Rattle.desk.specs.declared.Finding.{Finding}
 use Rattle.desk.specs.Verdict.{Question, judging}
-use Rattle.safety.specs.Histories.{Judged, _∈_, at-front, behind}
-use Rattle.safety.specs.Chip.{Lawful}
+use Rattle.safety.specs.Histories.{Judged, orderly, _∈_, at-front, behind}
+use Rattle.safety.specs.Chip.{Honest-chip}
 use Rattle.safety.specs.Hashed.{Told-apart}
 use Rattle.safety.specs.Demand.{Accepted}
 use Rattle.worked.proofs.Strings.{rack-A, rack-B, ledger, digest-A}
 use Rattle.worked.proofs.Story.{keepers, start, receipt-A, reading-B, signers, asks-A, asks-B, history}
 use Rattle.worked.proofs.Verdicts.{finds, verdict-A, verdict-B}
-use Rattle.worked.proofs.Kept.{lawful}
+use Rattle.worked.proofs.Kept.{order, chip}
 use Rattle.worked.proofs.Apart.{apart}
 
 accepted-verdict : (q : Question) (s : List ℕ) → Judged q s signers ∈ history → judging q s signers ≡ finds → Accepted history (q .identity) (q .label) 0 no-digest
@@ -45,5 +46,5 @@ pub two : (of-A .question .rack ≡ rack-A) × (of-B .question .rack ≡ rack-B)
 unfolding of-A of-B accepted-verdict
 two = (refl, refl, refl, refl)
 
-pub premises : Lawful keepers start history × Told-apart start history
-premises = (lawful, apart)
+pub premises : (orderly start history ≡ true) × Honest-chip keepers start history × Told-apart start history
+premises = (order, chip, apart)

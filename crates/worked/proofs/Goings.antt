@@ -1,17 +1,15 @@
 -- What the outcome of an accepted call says of the history that it is added to. Assumes nothing.
 use mathlib.Core.Path.{_≡_, sym, ap, subst, _∙_}
-use mathlib.Core.Bool.{Bool, true, not, cond, _&&_}
+use mathlib.Core.Bool.{Bool, true, false, not, cond, _&&_}
 use mathlib.Core.List.{List, [], _∷_}
-use Prim.Native.Nat.{ℕ, zero, suc, _<_}
+use Prim.Native.Nat.{ℕ}
 use lib.Dec.{eqb}
-use native.Mathlib.Omega.{arith}
 use Rattle.refusals.specs.{accepted}
 use Rattle.octets.proofs.RoundTrips.{same-refl}
-use Rattle.statement.specs.Kinds.{digest-bytes}
 use Rattle.rules.specs.Outcomes.{Outcome, accepting}
-use Rattle.safety.specs.Calls.{Keeper, Call, lent, outcome-of, left-by, accepts, statements-in, for-signing, is-wake, Sized, Taken}
-use Rattle.safety.specs.Histories.{Event, At, keeper-after, called, _∈_, at-front, Returned, now-returned}
-use Rattle.safety.specs.Chip.{Honest, Orderly}
+use Rattle.safety.specs.Calls.{Keeper, Call, lent, outcome-of, left-by, accepts, statements-in, for-signing, is-wake, sized}
+use Rattle.safety.specs.Histories.{Event, At, keeper-after, called, in-order, _∈_, at-front, behind, Returned, now-returned}
+use Rattle.safety.specs.Chip.{Claim, claims-by, claims, Honest}
 use Rattle.safety.specs.Hashed.{hashed-by, hashed-at}
 
 -- a call is accepted, so many bytes are written, and a keeper and an area are left
@@ -54,27 +52,42 @@ module _ {key : List ℕ} {k k' : Keeper} {call : Call} {n : ℕ} {area : List �
     pub goes-on : Leaves start (At key call ∷ h) key k'
     goes-on = record { keeper = keeper-then }
 
-    pub orderly : called key h ≡ not (is-wake call) → Sized digest-bytes key → Taken call → Orderly start h (At key call)
-    unfolding Orderly
-    orderly c s t = (c, λ w. is-accepted, (s, t))
+    pub wakes-first : is-wake call ≡ true → called key h ≡ false → in-order start h (At key call) ≡ true
+    unfolding in-order
+    wakes-first w c = rw (w, c, is-accepted)
 
     pub returns : {s : List ℕ} → statements-in call area ≡ s ∷ [] → Returned start key s (At key call ∷ h)
     returns {s} e =
         now-returned (subst (λ (l : List (List ℕ)). s ∈ l) (sym (ap (λ (x : Keeper). for-signing key x call) (l .keeper) ∙ signs-so ∙ e)) at-front)
 
-    pub hashes : hashed-at start h (At key call) ≡ hashed-by k k' call
+    pub hashes : hashed-at start h (At key call) ≡ hashed-by k call
     unfolding hashed-at
     hashes =
-        ap (λ (b : Bool). cond b (hashed-by (keeper-after start h key) (left-by key (keeper-after start h key) call) call) []) is-accepted
-        ∙ ap (λ (x : Keeper). hashed-by x (left-by key x call) call) (l .keeper)
-        ∙ ap (λ (x : Keeper). hashed-by k x call) leaves-so
+        ap (λ (b : Bool). cond b (hashed-by (keeper-after start h key) call) []) is-accepted ∙ ap (λ (x : Keeper). hashed-by x call) (l .keeper)
+
+    pub shows : claims start h (At key call) ≡ claims-by k call
+    unfolding claims
+    shows = ap (λ (b : Bool). cond b (claims-by (keeper-after start h key) call) []) is-accepted ∙ ap (λ (x : Keeper). claims-by x call) (l .keeper)
+
+-- a call after the Wake
+pub acts-later : (start : List ℕ → Keeper) (h : List Event) (key : List ℕ) (call : Call) → is-wake call ≡ false → called key h ≡ true → sized call ≡ true
+    → in-order start h (At key call) ≡ true
+unfolding in-order
+acts-later start h key call w c s = rw (w, c, s)
 
 -- marks of a keeper's key on what it had returned
+abbrev pub claim : List ℕ → ℕ → List ℕ → Claim
+claim key marks s = record { key = key; marks = marks; statement = s }
+
 pub honest : {keepers : List (List ℕ)} {start : List ℕ → Keeper} {h : List Event} {key s : List ℕ} (marks : ℕ)
-    → key ∈ keepers → Returned start key s h → Honest keepers start h key marks s
+    → key ∈ keepers → Returned start key s h → Honest keepers start h (claim key marks s)
 honest marks m r = record { attests = λ a. m; validates = λ v k. r }
 
--- of one number below 1
-pub only : (P : ℕ → Type 0) → P 0 → (i : ℕ) → i < 1 → P i
-only P p zero l = p
-only P p (suc i) l = absurd (omega arith)
+-- all elements of a list
+pub data All {A : Type 0} (P : A → Type 0) : List A → Type 0 where
+  none : All P []
+  and : {x : A} {l : List A} → P x → All P l → All P (x ∷ l)
+
+pub one-of : {A : Type 0} {P : A → Type 0} {x : A} {l : List A} → x ∈ l → All P l → P x
+one-of at-front (and t a) = t
+one-of (behind m) (and t a) = one-of m a

@@ -1,23 +1,25 @@
--- The worked history is lawful: keepers are woken first and once, and all marks are honest. Assumes nothing.
-use mathlib.Core.Path.{_≡_, refl, sym, subst, subst₂}
+-- The worked history is in order, keepers being woken first and once, and its chip is honest. Assumes nothing.
+use mathlib.Core.Path.{_≡_, refl, ap, subst, _∙_}
+use mathlib.Core.Bool.{true, cond}
 use mathlib.Core.List.{List, [], _∷_, _++_}
 use Prim.Native.Nat.{ℕ}
 use lib.ListN.{replicate}
+use lib.Dec.{eqb}
+use Rattle.refusals.specs.{accepted}
 use Rattle.octets.specs.Strings.{same, pieces}
-use Rattle.marks.specs.Entries.{pair-position, pair-marks}
 use Rattle.rack.specs.Racks.{rack-cut}
-use Rattle.rules.specs.Bundle.{old-position, old-marks, new-entries}
-use Rattle.rules.specs.Initialise.{initialise-statement}
 use Rattle.rules.specs.Check.{old-statement}
-use Rattle.desk.specs.Verdict.{Question}
-use Rattle.safety.specs.Calls.{Keeper, Call, Wake, statements-in, is-wake, Taken}
-use Rattle.safety.specs.Histories.{Event, At, Judged, keeper-after, called, at-front, behind, Returned, before-returned}
-use Rattle.safety.specs.Chip.{key-at, Honest, Shown, Marked, Orderly, Lawful, at-first, and-then}
-use Rattle.worked.proofs.Strings.{key-A, key-B, rack-A, rack-B, full-table, digest-A, block-A}
-use Rattle.worked.proofs.Goings.{Leaves, goes-on, orderly, returns, honest, only}
+use Rattle.desk.specs.declared.Finding.{Finding}
+use Rattle.desk.specs.Verdict.{Question, judging}
+use Rattle.safety.specs.Calls.{Keeper, Call, Wake, statements-in, is-wake, sized}
+use Rattle.safety.specs.Histories.{Event, At, Judged, keeper-after, called, in-order, orderly, _∈_, at-front, behind, listed, Returned, before-returned}
+use Rattle.safety.specs.Chip.{Claim, key-at, old-claim, new-claim, signer-claim, claims-by, claims, Honest, Honest-chip, at-first, and-then}
+use Rattle.worked.proofs.Strings.{key-A, key-B, rack-A, rack-B, digest-A, block-A}
+use Rattle.worked.proofs.Goings.{Goes, Leaves, goes-on, wakes-first, acts-later, returns, shows, claim, honest, All, none, and, one-of}
 use Rattle.worked.proofs.Story.{keepers, start, woken-A, founded-A, keeping-A, woken-B, prepared-B, active-B, receipt-A, leaving-A, entering-B, reading-B, founds-A, makes-A, leaves-A, enters-B}
-use Rattle.worked.proofs.Story.{bundle, activates-B, reads-B, signers, asks-A, asks-B, woken-first, founded, made, receipt-judged, left, woken-second, entered, activated, seen, history}
+use Rattle.worked.proofs.Story.{activates-B, reads-B, signers, asks-A, asks-B, woken-first, founded, made, receipt-judged, left, woken-second, entered, activated, seen, history}
 use Rattle.worked.proofs.Steps.{strings, rules, step-1, step-2, step-3, step-4, step-5, step-6, step-7, step-8}
+use Rattle.worked.proofs.Verdicts.{finds, verdict-A, verdict-B}
 
 -- the keepers as the history grows
 pub first-A : Leaves start [] key-A (start key-A)
@@ -80,37 +82,88 @@ reading-returned : Returned start key-B reading-B seen
 reading-returned = returns step-8 activated-is signs-8
 
 -- woken first and once, and arguments of their sizes
-order-1 : Orderly start [] (At key-A Wake)
-unfolding called is-wake Taken
-order-1 = orderly step-1 first-A refl (record { long = refl }) tt
+order-1 : in-order start [] (At key-A Wake) ≡ true
+unfolding called is-wake
+order-1 = wakes-first step-1 first-A refl refl
 
-order-2 : Orderly start woken-first (At key-A founds-A)
-unfolding called same is-wake Taken
-order-2 = orderly step-2 then-A refl (record { long = refl }) (record { long = refl })
+order-2 : in-order start woken-first (At key-A founds-A) ≡ true
+unfolding called same is-wake sized
+order-2 = acts-later start woken-first key-A founds-A refl refl refl
 
-order-3 : Orderly start founded (At key-A makes-A)
-unfolding called same is-wake Taken
-order-3 = orderly step-3 founded-is refl (record { long = refl }) (record { long = refl })
+order-3 : in-order start founded (At key-A makes-A) ≡ true
+unfolding called same is-wake sized
+order-3 = acts-later start founded key-A makes-A refl refl refl
 
-order-4 : Orderly start receipt-judged (At key-A leaves-A)
-unfolding called same is-wake Taken
-order-4 = orderly step-4 judged-is refl (record { long = refl }) tt
+order-4 : in-order start receipt-judged (At key-A leaves-A) ≡ true
+unfolding called same is-wake sized
+order-4 = acts-later start receipt-judged key-A leaves-A refl refl refl
 
-order-5 : Orderly start left (At key-B Wake)
-unfolding called same is-wake Taken
-order-5 = orderly step-5 first-B refl (record { long = refl }) tt
+order-5 : in-order start left (At key-B Wake) ≡ true
+unfolding called same is-wake
+order-5 = wakes-first step-5 first-B refl refl
 
-order-6 : Orderly start woken-second (At key-B enters-B)
-unfolding called same is-wake Taken digest-A
-order-6 = orderly step-6 then-B refl (record { long = refl }) (record { long = refl })
+order-6 : in-order start woken-second (At key-B enters-B) ≡ true
+unfolding called same is-wake sized digest-A
+order-6 = acts-later start woken-second key-B enters-B refl refl refl
 
-order-7 : Orderly start entered (At key-B activates-B)
-unfolding called same is-wake Taken
-order-7 = orderly step-7 entered-is refl (record { long = refl }) tt
+order-7 : in-order start entered (At key-B activates-B) ≡ true
+unfolding called same is-wake sized
+order-7 = acts-later start entered key-B activates-B refl refl refl
 
-order-8 : Orderly start activated (At key-B reads-B)
-unfolding called same is-wake Taken
-order-8 = orderly step-8 activated-is refl (record { long = refl }) (record { long = refl }, record { long = refl })
+order-8 : in-order start activated (At key-B reads-B) ≡ true
+unfolding called same is-wake sized
+order-8 = acts-later start activated key-B reads-B refl refl refl
+
+next : (h : List Event) (e : Event) → in-order start h e ≡ true → orderly start h ≡ true → orderly start (e ∷ h) ≡ true
+unfolding orderly
+next h e a b = rw (a, b)
+
+next-verdict : (h : List Event) (q : Question) (s t : List ℕ) → orderly start h ≡ true → orderly start (Judged q s t ∷ h) ≡ true
+unfolding orderly in-order
+next-verdict h q s t o = o
+
+pub order : orderly start history ≡ true
+unfolding orderly
+order =
+    next-verdict seen asks-B reading-B signers
+    (next activated (At key-B reads-B) order-8
+    (next entered (At key-B activates-B) order-7
+    (next woken-second (At key-B enters-B) order-6
+    (next left (At key-B Wake) order-5
+    (next receipt-judged (At key-A leaves-A) order-4
+    (next-verdict made asks-A receipt-A signers
+    (next founded (At key-A makes-A) order-3
+    (next woken-first (At key-A founds-A) order-2
+    (next [] (At key-A Wake) order-1 refl)))))))))
+
+-- what marks claim
+claims-7 : claims-by prepared-B activates-B ≡ claim key-A 3 leaving-A ∷ claim key-B 3 entering-B ∷ []
+unfolding rules listed key-at old-claim new-claim old-statement claims-by
+claims-7 = refl
+
+honest-7 : All (Honest keepers start entered) (claim key-A 3 leaving-A ∷ claim key-B 3 entering-B ∷ [])
+honest-7 = and (honest 3 at-front leaving-returned) (and (honest 3 (behind at-front) entering-returned) none)
+
+-- all that is claimed of a call, and of a verdict, is honest
+shown-by : {h : List Event} {key : List ℕ} {k k' : Keeper} {call : Call} {n : ℕ} {area : List ℕ} {l : List Claim}
+    → Goes key k call n k' area → Leaves start h key k → claims-by k call ≡ l → All (Honest keepers start h) l → Honest-chip keepers start h
+    → Honest-chip keepers start (At key call ∷ h)
+shown-by {h} {key} {call = call} {l = l} g there e a t =
+    and-then (λ c m. one-of (subst (λ (x : List Claim). c ∈ x) (shows g there ∙ e) m) a) t
+
+claimed-so : (h : List Event) (q : Question) (s : List ℕ) → judging q s signers ≡ finds → claims start h (Judged q s signers) ≡ listed 1 (signer-claim q s signers)
+unfolding claims
+claimed-so h q s e = ap (λ (f : Finding). cond (eqb (f .number) accepted) (listed 1 (signer-claim q s signers)) []) e
+
+one-signer : (q : Question) (s key : List ℕ) → key-at (q .rack) 0 ≡ key → listed 1 (signer-claim q s signers) ≡ claim key 3 s ∷ []
+unfolding listed signer-claim
+one-signer q s key p = ap (λ (k : List ℕ). claim k 3 s ∷ []) p
+
+judged-by : {h : List Event} (q : Question) (s : List ℕ) (key : List ℕ) → judging q s signers ≡ finds → key-at (q .rack) 0 ≡ key
+    → key ∈ keepers → Returned start key s h → Honest-chip keepers start h → Honest-chip keepers start (Judged q s signers ∷ h)
+judged-by {h} q s key e p i r t =
+    let a : All (Honest keepers start h) (claim key 3 s ∷ []) = and (honest 3 i r) none in
+    and-then (λ c m. one-of (subst (λ (x : List Claim). c ∈ x) (claimed-so h q s e ∙ one-signer q s key p) m) a) t
 
 -- the keys at the first place of the racks
 place-A : key-at rack-A 0 ≡ key-A
@@ -121,81 +174,44 @@ place-B : key-at rack-B 0 ≡ key-B
 unfolding key-at rack-cut pieces
 place-B = refl
 
--- and what the bundle's marks speak of
-old-key : key-at rack-A (old-position bundle 0) ≡ key-A
-unfolding rules key-at
-old-key = refl
+-- no call but Activate is shown marks
+none-1 : claims-by (start key-A) Wake ≡ []
+unfolding claims-by
+none-1 = refl
 
-old-speaks : old-statement (prepared-B .head) bundle 0 ≡ leaving-A
-unfolding rules old-statement
-old-speaks = refl
+none-2 : claims-by woken-A founds-A ≡ []
+unfolding claims-by
+none-2 = refl
 
-new-key : key-at rack-B (pair-position (new-entries bundle) 0) ≡ key-B
-unfolding rules key-at
-new-key = refl
+none-3 : claims-by founded-A makes-A ≡ []
+unfolding claims-by
+none-3 = refl
 
-new-speaks : initialise-statement (prepared-B .head) full-table ≡ entering-B
-unfolding rules
-new-speaks = refl
+none-4 : claims-by keeping-A leaves-A ≡ []
+unfolding claims-by
+none-4 = refl
 
-old-honest : Honest keepers start entered (key-at rack-A (old-position bundle 0)) (old-marks bundle 0) (old-statement (prepared-B .head) bundle 0)
-old-honest =
-    subst₂ (λ (k s : List ℕ). Honest keepers start entered k (old-marks bundle 0) s) (sym old-key) (sym old-speaks)
-    (honest (old-marks bundle 0) at-front leaving-returned)
+none-5 : claims-by (start key-B) Wake ≡ []
+unfolding claims-by
+none-5 = refl
 
-new-honest :
-    Honest keepers start entered (key-at rack-B (pair-position (new-entries bundle) 0)) (pair-marks (new-entries bundle) 0) (initialise-statement (prepared-B .head) full-table)
-new-honest =
-    subst₂ (λ (k s : List ℕ). Honest keepers start entered k (pair-marks (new-entries bundle) 0) s) (sym new-key) (sym new-speaks)
-    (honest (pair-marks (new-entries bundle) 0) (behind at-front) entering-returned)
+none-6 : claims-by woken-B enters-B ≡ []
+unfolding claims-by
+none-6 = refl
 
-shown-7 : Shown keepers start entered prepared-B activates-B
-unfolding Shown rules
-shown-7 = (
-  only (λ i. Honest keepers start entered (key-at rack-A (old-position bundle i)) (old-marks bundle i) (old-statement (prepared-B .head) bundle i)) old-honest,
-  only (λ i. Honest keepers start entered (key-at rack-B (pair-position (new-entries bundle) i)) (pair-marks (new-entries bundle) i) (initialise-statement (prepared-B .head) full-table)) new-honest,
-)
+none-8 : claims-by active-B reads-B ≡ []
+unfolding claims-by
+none-8 = refl
 
-marks-7 : Marked keepers start entered (At key-B activates-B)
-unfolding Marked
-marks-7 a = subst (λ (k : Keeper). Shown keepers start entered k activates-B) (sym (entered-is .keeper)) shown-7
-
-marks-A : Marked keepers start made (Judged asks-A receipt-A signers)
-unfolding Marked
-marks-A a =
-    only (λ i. Honest keepers start made (key-at rack-A (pair-position signers i)) (pair-marks signers i) receipt-A)
-    (subst (λ (k : List ℕ). Honest keepers start made k 3 receipt-A) (sym place-A) (honest 3 at-front receipt-returned))
-
-marks-B : Marked keepers start seen (Judged asks-B reading-B signers)
-unfolding Marked
-marks-B a =
-    only (λ i. Honest keepers start seen (key-at rack-B (pair-position signers i)) (pair-marks signers i) reading-B)
-    (subst (λ (k : List ℕ). Honest keepers start seen k 3 reading-B) (sym place-B) (honest 3 (behind at-front) reading-returned))
-
--- a call that is shown no marks
-unmarked : (h : List Event) (key : List ℕ) (call : Call) → ((k : Keeper) → Shown keepers start h k call) → Marked keepers start h (At key call)
-unfolding Marked
-unmarked h key call f a = f (keeper-after start h key)
-
--- a verdict has no order
-unordered : (h : List Event) (q : Question) (s t : List ℕ) → Orderly start h (Judged q s t)
-unfolding Orderly
-unordered h q s t = tt
-
-lawful-A : Lawful keepers start left
-unfolding Shown
-lawful-A =
-    and-then order-4 (unmarked receipt-judged key-A leaves-A (λ k. tt))
-    (and-then (unordered made asks-A receipt-A signers) marks-A
-    (and-then order-3 (unmarked founded key-A makes-A (λ k. tt))
-    (and-then order-2 (unmarked woken-first key-A founds-A (λ k. tt))
-    (and-then order-1 (unmarked [] key-A Wake (λ k. tt)) at-first))))
-
-pub lawful : Lawful keepers start history
-unfolding Shown
-lawful =
-    and-then (unordered seen asks-B reading-B signers) marks-B
-    (and-then order-8 (unmarked activated key-B reads-B (λ k. tt))
-    (and-then order-7 marks-7
-    (and-then order-6 (unmarked woken-second key-B enters-B (λ k. tt))
-    (and-then order-5 (unmarked left key-B Wake (λ k. tt)) lawful-A))))
+pub chip : Honest-chip keepers start history
+chip =
+    judged-by asks-B reading-B key-B verdict-B place-B (behind at-front) reading-returned
+    (shown-by step-8 activated-is none-8 none
+    (shown-by step-7 entered-is claims-7 honest-7
+    (shown-by step-6 then-B none-6 none
+    (shown-by step-5 first-B none-5 none
+    (shown-by step-4 judged-is none-4 none
+    (judged-by asks-A receipt-A key-A verdict-A place-A at-front receipt-returned
+    (shown-by step-3 founded-is none-3 none
+    (shown-by step-2 then-A none-2 none
+    (shown-by step-1 first-A none-1 none at-first)))))))))

@@ -10,7 +10,7 @@ use Rattle.rack.specs.Racks.{rack-written, rack-cut, rack-fits, is-among, rack-
 use Rattle.rows.specs.Row.{label-of, tail-of, height-of, row-holds, row-fits}
 use Rattle.rows.specs.Table.{each, rises, stands, rows-fit}
 use Rattle.rows.specs.Search.{held, first-of, find}
-use Rattle.rows.specs.Digests.{digest-of-rows, roll-digest, appended}
+use Rattle.rows.specs.Digests.{roll-string, roll-digest, appended}
 use Rattle.marks.specs.Entries.{goes-up, entry-fits, entries-fit, mark-tests, marks-tests}
 use Rattle.roll.specs.Blocks.{blocks, head, places-of, checked, block, first-blocks, gathered}
 use Rattle.roll.specs.Roll.{said-count, filled, roll-layout}
@@ -37,7 +37,7 @@ use Rattle.worked.proofs.Story.{leaving-A, entering-B, reading-B, found
 unfoldable pub strings : ℕ
 unfolding shown empty-table full-table digest-A digest-B digest-none digest-one check
     flatten first put all-zero same before pieces rising holds rack-written rack-cut rack-fits is-among rack-digest
-    label-of tail-of height-of row-holds row-fits each rises stands rows-fit held first-of find digest-of-rows roll-digest appended
+    label-of tail-of height-of row-holds row-fits each rises stands rows-fit held first-of find roll-string roll-digest appended
     blocks head places-of checked block first-blocks gathered said-count filled roll-layout receipt body statement-written
 strings = 0
 
