@@ -7,4 +7,5 @@ pub mod Initialised
 pub mod Noted
 pub mod Finalised
 pub mod Activated
+pub mod TablesChanged
 pub mod TablesLeft

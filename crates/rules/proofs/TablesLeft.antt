@@ -2,31 +2,25 @@
 use mathlib.Core.Path.{_≡_, refl, sym, ap, subst, _∙_}
 use mathlib.Core.Bool.{Bool, true, false, not, cond, _&&_}
 use mathlib.Core.List.{List, [], _∷_, _++_}
-use Prim.Native.Nat.{ℕ, _+_, _*_, _≤_}
-use native.Mathlib.Omega.{arith}
+use Prim.Native.Nat.{ℕ}
 use borrow.Author.Tests.{eqb-true, eqb-false, not-false}
-use lib.ListN.{length, take, drop, replicate, length-append, length-take, length-drop, length-replicate}
+use lib.ListN.{length, length-replicate}
 use lib.Dec.{eqb}
 use Rattle.refusals.specs.{accepted, record-not-sound}
-use Rattle.refusals.specs.Order.{_⇒_, first}
 use Rattle.refusals.proofs.Orders.{passes}
-use Rattle.octets.specs.Numbers.{bytes-of}
-use Rattle.octets.specs.Strings.{put}
 use Rattle.octets.specs.Layouts.{holds}
-use Rattle.octets.proofs.Exact.{Octets, octets-take, octets-drop}
-use Rattle.octets.proofs.Bytes.{octets-append, octets-zeros, octets-number, octets-put}
-use Rattle.octets.proofs.Numbers.{bytes-length}
-use Rattle.octets.proofs.Puts.{put-length}
+use Rattle.octets.proofs.Exact.{Octets}
+use Rattle.octets.proofs.Bytes.{octets-zeros}
 use Rattle.hash.proofs.Promised.{sha256-length, sha256-octets}
-use Rattle.rows.specs.Sizes.{label-bytes, tail-bytes, height-bytes, row-bytes, table-bytes}
-use Rattle.rows.specs.Digests.{appended}
+use Rattle.rows.specs.Sizes.{table-bytes}
+use Rattle.rows.specs.Digests.{append-mark, appended}
 use Rattle.rows.proofs.Tables.{fit-length}
 use Rattle.roll.specs.Roll.{roll-layout}
 use Rattle.roll.proofs.Cuts.{cut-octets, cut-long}
 use Rattle.rules.specs.declared.Head.{Head}
-use Rattle.rules.specs.Record.{finalised, sound}
-use Rattle.rules.specs.Outcomes.{Lent, Outcome, refused, given, again, unless}
-use Rattle.rules.specs.Table.{new-row, widened, moved}
+use Rattle.rules.specs.Record.{finalised}
+use Rattle.rules.specs.Outcomes.{Lent, Outcome, given, again, unless}
+use Rattle.rules.specs.Rows.{present-tail}
 use Rattle.rules.specs.Wake.{waking}
 use Rattle.rules.specs.Initialise.{absent, initialise-refusal, entered, initialising}
 use Rattle.rules.specs.New.{new-refusal, making}
@@ -39,6 +33,7 @@ use Rattle.rules.proofs.Firsts.{sound-rows}
 use Rattle.rules.proofs.Refused.{Ends, stopped, went, ends, refused-leaves}
 use Rattle.rules.proofs.Initialised.{initialisable}
 use Rattle.rules.proofs.Noted.{row-of, makeable, appendable}
+use Rattle.rules.proofs.TablesChanged.{widened-length, widened-octets, moved-length, moved-octets}
 
 -- a table as 63 rows have it
 pub record Whole (t : List ℕ) : Type 0 where
@@ -54,42 +49,6 @@ pub data Leaves (t u : List ℕ) : Type 0 where
 pub leaves-whole : {t u : List ℕ} → Leaves t u → Whole t → Whole u
 leaves-whole (stays e) w = subst Whole (sym e) w
 leaves-whole (changes l m o) w = record { long = m; bytes = o (w .bytes) }
-
--- the parts of a table that are written anew
-pub widened-octets : (rows : List ℕ) (i : ℕ) (label : List ℕ) → Octets rows → Octets label → Octets (widened rows i label)
-unfolding widened
-widened-octets rows i label o p =
-    octets-take (length rows) (take (row-bytes * i) rows ++ new-row label ++ drop (row-bytes * i) rows)
-    (octets-append (take (row-bytes * i) rows ++ new-row label) (drop (row-bytes * i) rows)
-    (octets-append (take (row-bytes * i) rows) (new-row label) (octets-take (row-bytes * i) rows o)
-    (octets-append label (replicate (tail-bytes + height-bytes) 0) p (octets-zeros (tail-bytes + height-bytes))))
-    (octets-drop (row-bytes * i) rows o))
-
-pub widened-length : (rows : List ℕ) (i : ℕ) (label : List ℕ) → length (widened rows i label) ≡ length rows
-unfolding widened
-widened-length rows i label = simp (length-take, length-append, length-drop) (omega arith)
-
-pub moved-octets : (rows : List ℕ) (i : ℕ) (tail : List ℕ) (height : ℕ) → Octets rows → Octets tail → Octets (moved rows i tail height)
-unfolding moved
-moved-octets rows i tail height o p =
-    octets-put rows (row-bytes * i + label-bytes) (tail ++ bytes-of height-bytes height) o
-    (octets-append tail (bytes-of height-bytes height) p (octets-number height-bytes height))
-
-pub moved-length :
-    (rows : List ℕ) (i : ℕ) (tail : List ℕ) (height : ℕ) → length tail ≡ tail-bytes → row-bytes * i + row-bytes ≤ length rows
-    → length (moved rows i tail height) ≡ length rows
-unfolding moved
-moved-length rows i tail height l h =
-    put-length rows (row-bytes * i + label-bytes) (tail ++ bytes-of height-bytes height)
-    (omega (arith, length-append tail (bytes-of height-bytes height), bytes-length height-bytes height))
-
-appended-octets : (tail entry : List ℕ) → Octets (appended tail entry)
-unfolding appended
-appended-octets tail entry = sha256-octets _
-
-appended-length : (tail entry : List ℕ) → length (appended tail entry) ≡ tail-bytes
-unfolding appended
-appended-length tail entry = sha256-length _
 
 present : (a b : Bool) → a ≡ false → (not a && not b) ≡ false → b ≡ true
 present true b e f = let z : _≡_ {A = Bool} true false = e in cc
@@ -125,13 +84,14 @@ module _ (k : Lent) where
 
   -- an accepted append's table
   moved-left : (size : ℕ) (label entry : List ℕ) (expected : ℕ) → append-refusal size k label expected ≡ accepted → Leaves (k .table) (moved-on k label entry)
-  unfolding moved-on
+  unfolding moved-on appended
   moved-left size label entry expected none =
       let i : ℕ = row-of k label in
       let tail : List ℕ = next-tail k label entry in
       let has = appendable size k label expected none .has in
-      changes (has .long) (moved-length (k .table) i tail (next-height k label) (appended-length _ entry) (has .within) ∙ has .long)
-      (λ o. moved-octets (k .table) i tail (next-height k label) o (appended-octets _ entry))
+      let digested : List ℕ = append-mark ∷ present-tail k label ++ entry in
+      changes (has .long) (moved-length (k .table) i tail (next-height k label) (sha256-length digested) (has .within) ∙ has .long)
+      (λ o. moved-octets (k .table) i tail (next-height k label) o (sha256-octets digested))
 
   pub waking-left : (key : List ℕ) → Left (waking k key)
   unfolding waking
