@@ -1,4 +1,4 @@
--- The premises of demand 3 over exported calls are those over the flat records. Assumes nothing.
+-- The premises of demand 3 over exported calls are those over the flat records, both ways. Assumes nothing.
 use mathlib.Core.Path.{_≡_, refl, sym, ap, ap₂, subst, _∙_}
 use mathlib.Core.Bool.{Bool, true, not, cond, _&&_}
 use mathlib.Core.List.{List, [], _∷_}
@@ -61,16 +61,33 @@ module _ (start : List ℕ → Box) (rows : (key : List ℕ) → are-rows (start
       flatly.now-returned (subst (λ (l : List (List ℕ)). s ∈ l) (sym (signing-is h (before (At key call) h bytes) key call)) m)
   returned bytes (before-returned {e} {h} r) = flatly.before-returned (returned (before e h bytes) r)
 
+  returned-back : {key s : List ℕ} {h : List Event} → handed-bytes h ≡ true → flatly.Returned fs key s h → Returned start key s h
+  returned-back {key} {s} bytes (flatly.now-returned {call} {h} m) =
+      now-returned (subst (λ (l : List (List ℕ)). s ∈ l) (signing-is h (before (At key call) h bytes) key call) m)
+  returned-back bytes (flatly.before-returned {e} {h} r) = before-returned (returned-back (before e h bytes) r)
+
   hashed : {s : List ℕ} {h : List Event} → handed-bytes h ≡ true → hash.Hashed fs s h → Hashed start s h
   hashed {s} bytes (hash.now-hashed {e} {h} m) =
       now-hashed (subst (λ (l : List (List ℕ)). s ∈ l) (hashed-is h (before e h bytes) e) m)
   hashed bytes (hash.before-hashed {e} {h} r) = before-hashed (hashed (before e h bytes) r)
+
+  hashed-back : {s : List ℕ} {h : List Event} → handed-bytes h ≡ true → Hashed start s h → hash.Hashed fs s h
+  hashed-back {s} bytes (now-hashed {e} {h} m) =
+      hash.now-hashed (subst (λ (l : List (List ℕ)). s ∈ l) (sym (hashed-is h (before e h bytes) e)) m)
+  hashed-back bytes (before-hashed {e} {h} r) = hash.before-hashed (hashed-back (before e h bytes) r)
 
   pub apart-is : (h : List Event) → handed-bytes h ≡ true → Told-apart start h → hash.Told-apart fs h
   apart-is h bytes told =
       record {
         apart = λ s t p q. told .apart s t (hashed bytes p) (hashed bytes q);
         not-zeros = λ s p. told .not-zeros s (hashed bytes p);
+      }
+
+  pub apart-back : (h : List Event) → handed-bytes h ≡ true → hash.Told-apart fs h → Told-apart start h
+  apart-back h bytes told =
+      record {
+        apart = λ s t p q. told .apart s t (hashed-back bytes p) (hashed-back bytes q);
+        not-zeros = λ s p. told .not-zeros s (hashed-back bytes p);
       }
 
   module _ (keepers : List (List ℕ)) where
@@ -83,3 +100,13 @@ module _ (start : List ℕ → Box) (rows : (key : List ℕ) → are-rows (start
         chip.and-then
         (λ c m. honest (before e h bytes) (all c (subst (λ (l : List Claim). c ∈ l) (claims-is h (before e h bytes) e) m)))
         (chip-is (before e h bytes) earlier)
+
+    honest-back : {h : List Event} {c : Claim} → handed-bytes h ≡ true → chip.Honest keepers fs h c → Honest keepers start h c
+    honest-back bytes o = record { attests = o .attests; validates = λ v k. returned-back bytes (o .validates v k) }
+
+    pub chip-back : {h : List Event} → handed-bytes h ≡ true → chip.Honest-chip keepers fs h → Honest-chip keepers start h
+    chip-back bytes chip.at-first = at-first
+    chip-back bytes (chip.and-then {e} {h} all earlier) =
+        and-then
+        (λ c m. honest-back (before e h bytes) (all c (subst (λ (l : List Claim). c ∈ l) (sym (claims-is h (before e h bytes) e)) m)))
+        (chip-back (before e h bytes) earlier)
