@@ -1,24 +1,21 @@
 -- The round trips of the calls for C: what reading accepts is written again as the same bytes, and what is written reads back. Assumes nothing.
 use mathlib.Core.Path.{_≡_, refl, sym, ap, _∙_}
 use mathlib.Core.Bool.{true}
-use mathlib.Core.List.{List, [], _∷_, _++_, map}
-use Prim.Native.Nat.{ℕ, zero, suc, _+_, _-_, _*_, _≤_, _<_}
-use borrow.Author.Tests.{eqb-true}
-use lib.ListN.{length, take, drop, replicate}
+use mathlib.Core.List.{List, [], _∷_, map}
+use Prim.Native.Nat.{ℕ, _≤_}
+use lib.ListN.{length}
 use lib.Dec.{lit<}
 use Rattle.refusals.specs.{accepted, rack-broken, roll-broken, statement-not-asked}
 use Rattle.octets.specs.Layouts.{holds}
-use Rattle.octets.proofs.Exact.{Octets, octets-take, octets-drop}
-use Rattle.octets.proofs.RoundTrips.{holds-fits, and-left}
+use Rattle.octets.proofs.Exact.{Octets}
 use Rattle.rack.specs.Racks as rack
 use Rattle.rack.specs.Racks.{rack-layout}
 use Rattle.rack.proofs.RackTrips.{rack-written-reads}
 use Rattle.rack.proofs.Shapes as rack-shape
-use Rattle.rows.specs.Sizes.{most-rows, table-bytes}
-use Rattle.rows.specs.Table.{rows-fit}
-use Rattle.roll.specs.Blocks.{places-bytes, head-bytes, block-bytes, blocks, gathered}
+use Rattle.rows.specs.Sizes.{most-rows}
 use Rattle.roll.specs.Roll as roll
-use Rattle.roll.specs.Roll.{said-count, filled, roll-layout}
+use Rattle.roll.specs.Roll.{roll-layout}
+use Rattle.roll.proofs.Cuts.{cut-octets, cut-long}
 use Rattle.roll.proofs.RollTrips.{written-reads-back}
 use Rattle.statement.specs.Cut.{cut-statement}
 use Rattle.statement.specs.Layout.{statement-layout, reading}
@@ -65,31 +62,9 @@ unfolding rack-given reading-rack writing-rack
 rack-written-read r area w =
     written-read rack-layout rack-broken (lit< tt) rack-of rack-given (λ r. r .number) (λ r. r .rack) r _ area (rack-written-reads (rack-of r) w) (λ f. rw (places-again (r .keys)))
 
-octets-append : (a b : List ℕ) → Octets a → Octets b → Octets (a ++ b)
-octets-append [] b p q i = q i
-octets-append (x ∷ a) b p q zero = p 0
-octets-append (x ∷ a) b p q (suc i) = octets-append a b (λ j. p (suc j)) q i
-
-octets-zeros : (n : ℕ) → Octets (replicate n 0)
-octets-zeros zero i = lit< tt
-octets-zeros (suc n) zero = lit< tt
-octets-zeros (suc n) (suc i) = octets-zeros n i
-
-octets-gathered : (s : List ℕ) (n : ℕ) → Octets s → Octets (gathered s n)
-unfolding gathered
-octets-gathered s zero o = λ i. lit< tt
-octets-gathered s (suc n) o =
-    let at : ℕ = block-bytes * n + head-bytes in
-    octets-append (gathered s n) (take places-bytes (drop at s)) (octets-gathered s n o) (octets-take places-bytes (drop at s) (octets-drop at s o))
-
--- the table that a roll is taken apart into is one of bytes, and the bytes of its rows are it again
+-- the bytes of the rows of the table that a roll is taken apart into are it again
 table-again : (s : List ℕ) → Octets s → holds roll-layout s ≡ true → flattened (rows-of most-rows (roll-layout .cut s .rows)) ≡ roll-layout .cut s .rows
-unfolding roll-layout filled rows-fit
-table-again s o h =
-    let t : List ℕ = roll-layout .cut s .rows in
-    let g : List ℕ = gathered s (blocks (said-count s)) in
-    let n : length t ≡ table-bytes = eqb-true (length t) table-bytes (and-left _ _ (and-left _ _ (and-left _ _ (holds-fits roll-layout s h)))) in
-    flattened-rows most-rows t (sym n) (octets-append g (replicate (table-bytes - length g) 0) (octets-gathered s (blocks (said-count s)) o) (octets-zeros (table-bytes - length g)))
+table-again s o h = flattened-rows most-rows (roll-layout .cut s .rows) (sym (cut-long s h)) (cut-octets s o)
 
 pub roll-read-written :
     (s area : List ℕ) → Octets s → reading-roll s .number ≡ accepted → length s ≤ length area → writing-roll (reading-roll s .roll) area ≡ Written-as s area

@@ -1,16 +1,10 @@
 -- What owning contents of C's types tells of them: what the round trips ask of a rack, a roll and a statement. Assumes nothing.
 use mathlib.Core.Path.{_≡_, _∙_}
 use mathlib.Core.List.{List, [], _∷_, map}
-use Prim.Native.Nat.{ℕ, zero, suc}
 use mir.Val.{Val}
-use denote.Array.{each}
 use denote.Laws.{Is}
-use denote.Shadow.{shadow}
 use denote.Struct.Declared.{row}
-use denote.Struct.Field.{Field, u8-field}
 use lib.ListN.{length, length-map}
-use lib.Dec.{lit<}
-use Rattle.octets.proofs.Exact.{Octets}
 use Rattle.octets.proofs.Pieces.{Each, none, more}
 use Rattle.rack.specs.Racks.{most, key-bytes}
 use Rattle.rack.proofs.Shapes as rack-shape
@@ -18,7 +12,7 @@ use Rattle.rows.specs.Sizes.{most-rows}
 use Rattle.table.specs.declared.Row.{Row}
 use Rattle.table.proofs.Row as W
 use Rattle.table.proofs.RowTrips.{AllTyped, nil, cons}
-use Rattle.table.proofs.RowTypes.{typed-row}
+use Rattle.table.proofs.RowTypes.{Elements, octets, typed-row}
 use Rattle.interface.specs.declared.Key.{Key}
 use Rattle.interface.specs.declared.Rack.{Rack}
 use Rattle.interface.specs.declared.Roll.{Roll}
@@ -29,10 +23,6 @@ use Rattle.interface.proofs.Key as K
 use Rattle.interface.proofs.Rack as R
 use Rattle.interface.proofs.Roll as O
 use Rattle.interface.proofs.Plain as P
-
--- an array in a struct holds its elements each in its place
-abbrev Elements : (F : Field) → List (F .Value) → List Val → Type 0
-Elements F xs us = shadow (each (F .row .Denot) (F .row .own) (map (F .into) xs) us)
 
 each-key : (keys : List Key) (us : List Val) → Elements K.the-field keys us → Each key-bytes (map bytes-in keys)
 each-key [] us g = none
@@ -55,12 +45,6 @@ pub roll-typed : (r : Roll) (vs : List Val) → Is (row O.the-type) r vs → (le
 roll-typed r vs g =
     let a = g .1 .1 .1 .0 in
     (simp length-map at (a .1 .0 .1), each-row (r .rows) _ (a .1 .1))
-
-octets : (s : List ℕ) (us : List Val) → Elements u8-field s us → Octets s
-octets [] us g i = lit< tt
-octets (b ∷ s) [] g i = absurd g
-octets (b ∷ s) (u ∷ us) g zero = g .0 .1
-octets (b ∷ s) (u ∷ us) g (suc i) = octets s us (g .1) i
 
 pub plain-typed : (p : Plain) (vs : List Val) → Is (row P.the-type) p vs → Typed p
 unfolding statement-of

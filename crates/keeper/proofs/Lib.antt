@@ -1,3 +1,4 @@
 -- Laws of the calls on a record that the caller lends.
 pub mod OtherTables
 pub mod ThinCalls
+pub mod Outcomes

@@ -2,3 +2,9 @@
 mod ledger;
 mod thin;
 mod waking;
+
+pub use thin::mahqurith_append;
+pub use thin::mahqurith_append_and_read;
+pub use thin::mahqurith_new;
+pub use thin::mahqurith_read;
+pub use waking::mahqurith_wake;

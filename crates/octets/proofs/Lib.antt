@@ -1,4 +1,5 @@
 -- The laws that the proofs about strings of bytes cite.
+pub mod Bytes
 pub mod Compared
 pub mod Digits
 pub mod Exact

@@ -1,12 +1,21 @@
--- A roll cut out of its blocks: the places of each block, gathered. Assumes nothing.
+-- A roll cut out of its blocks: the places of each block, gathered, and the table that they make up. Assumes nothing.
 use mathlib.Core.Path.{_≡_, refl, sym, ap, ap₂, _∙_}
+use mathlib.Core.Bool.{true}
 use mathlib.Core.List.{List, _++_}
-use Prim.Native.Nat.{ℕ, zero, suc, _+_, _*_, _≤_}
+use Prim.Native.Nat.{ℕ, zero, suc, _+_, _-_, _*_, _≤_}
 use native.Mathlib.Numerals.{add-one}
 use native.Mathlib.Omega.{arith}
-use lib.ListN.{length, take, drop, length-append, length-take, length-drop}
+use lib.ListN.{length, take, drop, replicate, length-append, length-take, length-drop}
 use lib.Seq.{take-add, drop-append-add, take-append-le, drop-append-le}
-use Rattle.roll.specs.Blocks.{places-of, block, first-blocks, gathered, head-bytes, block-bytes, places-bytes}
+use lib.Dec.{lit<}
+use Rattle.octets.specs.Layouts.{holds}
+use Rattle.octets.proofs.Exact.{Octets, octets-take, octets-drop}
+use Rattle.octets.proofs.Bytes.{octets-append, octets-zeros}
+use Rattle.octets.proofs.RoundTrips.{holds-fits}
+use Rattle.rows.specs.Sizes.{table-bytes}
+use Rattle.rows.proofs.Tables.{fit-length}
+use Rattle.roll.specs.Blocks.{places-of, block, first-blocks, gathered, head-bytes, block-bytes, places-bytes, blocks}
+use Rattle.roll.specs.Roll.{said-count, filled, roll-layout}
 use Rattle.roll.proofs.Blocks.{first-length, block-places}
 
 pub gathered-length : (s : List ℕ) (n : ℕ) → block-bytes * n ≤ length s → length (gathered s n) ≡ places-bytes * n
@@ -45,3 +54,22 @@ gathered-blocks count rows (suc n) h =
 pub gathered-next : (s : List ℕ) (n : ℕ) → gathered s (n + 1) ≡ gathered s n ++ take places-bytes (drop (block-bytes * n + head-bytes) s)
 unfolding gathered
 gathered-next s n = rw (add-one n)
+
+gathered-octets : (s : List ℕ) (n : ℕ) → Octets s → Octets (gathered s n)
+unfolding gathered
+gathered-octets s zero o = λ i. lit< tt
+gathered-octets s (suc n) o =
+    let at : ℕ = block-bytes * n + head-bytes in
+    octets-append (gathered s n) (take places-bytes (drop at s)) (gathered-octets s n o) (octets-take places-bytes (drop at s) (octets-drop at s o))
+
+-- the table that bytes are cut into is of bytes
+pub cut-octets : (s : List ℕ) → Octets s → Octets (roll-layout .cut s .rows)
+unfolding roll-layout filled
+cut-octets s o =
+    let g : List ℕ = gathered s (blocks (said-count s)) in
+    octets-append g (replicate (table-bytes - length g) 0) (gathered-octets s (blocks (said-count s)) o) (octets-zeros (table-bytes - length g))
+
+-- and where they are a roll, it has the length of 63 rows
+pub cut-long : (s : List ℕ) → holds roll-layout s ≡ true → length (roll-layout .cut s .rows) ≡ table-bytes
+unfolding roll-layout
+cut-long s h = fit-length (said-count s) (filled table-bytes (gathered s (blocks (said-count s)))) (holds-fits roll-layout s h)

@@ -1,4 +1,5 @@
--- The laws of the rules that proofs of calls and of safety cite: what each call asks first, what a refused one leaves, and what is known of an accepted one.
+-- The laws of the rules that proofs of calls and of safety cite: what each call asks first, what a refused one leaves, what is known of an accepted one, and
+-- what becomes of the table.
 pub mod Firsts
 pub mod Refused
 pub mod FoundRows
@@ -6,3 +7,5 @@ pub mod Initialised
 pub mod Noted
 pub mod Finalised
 pub mod Activated
+pub mod TablesChanged
+pub mod TablesLeft

@@ -10,7 +10,7 @@ use lib.Dec.{eqb}
 use Rattle.octets.specs.Strings.{all-zero}
 use Rattle.rows.specs.declared.Found.{Found}
 use Rattle.rows.specs.declared.Found.the-variants.{At, Absent}
-use Rattle.rows.specs.Sizes.{top-height, row-bytes, most-rows}
+use Rattle.rows.specs.Sizes.{top-height, row-bytes, table-bytes, most-rows}
 use Rattle.rows.specs.Row.{row-holds}
 use Rattle.rows.specs.Table.{rows-fit}
 use Rattle.rows.proofs.Tables.{fit-length, fit-count}
@@ -33,6 +33,7 @@ row-of k label = row-number (sought k label)
 pub record Rowed (k : Lent) (label : List ℕ) : Type 0 where
   pub was : k .head .status ≡ active
   pub found : sought k label ≡ At (row-of k label)
+  pub long : length (k .table) ≡ table-bytes
   pub within : row-bytes * row-of k label + row-bytes ≤ length (k .table)
   pub holds : row-holds label (present-tail k label) (present-height k label) ≡ true
 
@@ -49,6 +50,7 @@ rowed size k label r there = go (sought k label) refl there
         record {
           was = r .acts;
           found = p ∙ ap At (sym n);
+          long = long;
           within = omega (arith, w .0);
           holds = row-found (k .head .count) (k .table) label fit there .1;
         }

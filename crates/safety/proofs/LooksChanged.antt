@@ -16,6 +16,7 @@ use Rattle.rows.proofs.Searches.{held-all, none-is, found-is, absent-is}
 use Rattle.roll.specs.Roll.{Roll}
 use Rattle.statement.specs.Cut.{no-digest}
 use Rattle.rules.specs.Table.{moved, widened}
+use Rattle.rules.proofs.TablesChanged.{moved-length, widened-length}
 use Rattle.safety.proofs.Views.{standing, look, Reaches, Grows}
 use Rattle.safety.proofs.RowsParts.{row-at, same-label, same-tail, same-height}
 use Rattle.safety.proofs.RowsMoved as moves
@@ -41,7 +42,7 @@ module _ (count : ℕ) (rows : List ℕ) (i : ℕ) (tail : List ℕ) (height : �
   finds : (label : List ℕ) → find count (moved rows i tail height) label ≡ find count rows label
   unfolding held find
   finds label =
-      ap (λ (n : ℕ). first-of (min count (min most-rows (n / row-bytes))) (moved rows i tail height) label) (moves.moved-length rows i tail height within sized)
+      ap (λ (n : ℕ). first-of (min count (min most-rows (n / row-bytes))) (moved rows i tail height) label) (moved-length rows i tail height sized within)
       ∙ first-same (moved rows i tail height) rows label (held count rows) (λ j h. moves.label-stays rows i tail height within sized j)
 
   module _ (small : height < 256 ^ height-bytes) where
@@ -83,7 +84,7 @@ module _ (count : ℕ) (rows label : List ℕ) (i : ℕ) (fit : rows-fit count r
   wide-finds : (sought : List ℕ) (j : ℕ) → first-of (count + 1) (widened rows i label) sought ≡ At j → find (count + 1) (widened rows i label) sought ≡ At j
   unfolding find
   wide-finds sought j e =
-      let l = widens.widened-length rows label i within sized in
+      let l = widened-length rows i label in
       ap (λ (n : ℕ). first-of n (widened rows i label) sought) (held-all (count + 1) (widened rows i label) (omega arith) (omega (arith, fit-length count rows fit))) ∙ e
 
   label-before : (m : ℕ) → m < i → label-of (widened rows i label) m ≡ label-of rows m

@@ -9,7 +9,6 @@ use lib.Seq.{take-at, drop-at, take-all}
 use Rattle.octets.specs.Numbers.{number-of, bytes-of}
 use Rattle.octets.proofs.Numbers.{bytes-length}
 use Rattle.octets.proofs.Exact.{number-bytes}
-use Rattle.octets.proofs.Puts.{put-length}
 use Rattle.rows.specs.Sizes.{label-bytes, tail-bytes, height-bytes, row-bytes}
 use Rattle.rows.specs.Row.{label-of, tail-of, height-of}
 use Rattle.rules.specs.Table.{moved}
@@ -24,10 +23,6 @@ module _ (rows : List ℕ) (i : ℕ) (tail : List ℕ) (height : ℕ) (within : 
 
   at-most : row-bytes * i + label-bytes ≤ length rows
   at-most = omega arith
-
-  pub moved-length : length (moved rows i tail height) ≡ length rows
-  unfolding moved
-  moved-length = put-length rows (row-bytes * i + label-bytes) new-bytes (omega (arith, new-long))
 
   pub row-before : (m : ℕ) → m < i → row-at (moved rows i tail height) m ≡ row-at rows m
   unfolding moved row-at

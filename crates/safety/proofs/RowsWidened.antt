@@ -4,7 +4,7 @@ use mathlib.Core.Bool.{Bool, true, false, cond}
 use mathlib.Core.List.{List, _++_}
 use Prim.Native.Nat.{ℕ, zero, suc, _+_, _-_, _*_, _≤_, _<_}
 use native.Mathlib.Omega.{arith}
-use lib.ListN.{length, take, drop, replicate, length-append, length-drop, length-replicate}
+use lib.ListN.{length, take, drop, replicate, length-append, length-replicate}
 use lib.Seq.{take-at, drop-at, drop-drop, take-all, length-take-le}
 use Rattle.octets.specs.Numbers.{number-of}
 use Rattle.octets.specs.Strings.{before}
@@ -36,12 +36,6 @@ module _ (t label : List ℕ) (i : ℕ) (within : row-bytes * i + row-bytes ≤ 
 
   both-long : length (take (row-bytes * i) t ++ new-row label) ≡ row-bytes * i + row-bytes
   both-long = length-append (take (row-bytes * i) t) (new-row label) ∙ omega (arith, row-long, front-long)
-
-  pub widened-length : length (widened t i label) ≡ length t
-  unfolding widened
-  widened-length =
-      length-take-le (length t) longer
-      (omega (arith, both-long, length-append (take (row-bytes * i) t ++ new-row label) (drop (row-bytes * i) t), length-drop (row-bytes * i) t))
 
   pub row-before : (m : ℕ) → m < i → row-at (widened t i label) m ≡ row-at t m
   unfolding widened row-at

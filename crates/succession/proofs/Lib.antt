@@ -2,3 +2,4 @@
 pub mod Locals
 pub mod OtherTables
 pub mod PassedOn
+pub mod Outcomes

@@ -3,3 +3,8 @@ mod activating;
 mod finalising;
 mod messages;
 mod passing;
+
+pub use activating::mahqurith_activate;
+pub use finalising::mahqurith_finalise;
+pub use passing::mahqurith_bytes_to_check;
+pub use passing::mahqurith_initialise;

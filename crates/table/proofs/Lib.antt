@@ -5,6 +5,7 @@ pub mod Filled
 pub mod RowsHeld
 pub mod Turns
 pub mod HeldRows
+pub mod LeftRows
 pub mod KeptHeld
 pub mod RowsLent
 pub mod OtherLent

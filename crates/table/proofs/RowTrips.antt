@@ -1,5 +1,5 @@
 -- The rows of a table and its flat bytes, one from the other and back without loss. Assumes nothing.
-use mathlib.Core.Path.{_≡_, refl, sym, ap, ap₂, _∙_}
+use mathlib.Core.Path.{_≡_, refl, sym, ap, ap₂, subst, _∙_}
 use Prim.Native.Nat.{ℕ, zero, suc, _+_, _*_, _^_, _≤_, _<_}
 use native.Mathlib.Nat.{mul-suc, not-suc-le-zero, le-of-suc-le-suc}
 use native.Mathlib.Omega.{arith}
@@ -7,10 +7,12 @@ use native.Mathlib.Numerals.{add-one}
 use mathlib.Core.List.{List, [], _∷_, _++_, append-assoc, map, flatten}
 use lib.ListN.{length, getD, take, drop, set, length-append, length-map, length-drop}
 use lib.Seq.{take-suc, take-suc-set, take-at, drop-at, take-all, take-add, length-take-le}
+use lib.Dec.{lit<}
 use Rattle.octets.specs.Numbers.{number-of, bytes-of}
 use Rattle.octets.specs.Strings.{put, pieces}
 use Rattle.octets.proofs.Numbers.{bytes-length}
-use Rattle.octets.proofs.Exact.{Octets, octets-take, octets-drop, number-bytes, bytes-number}
+use Rattle.octets.proofs.Exact.{Octets, octets-take, octets-drop, number-bytes, number-below, bytes-number}
+use Rattle.octets.proofs.Bytes.{octets-append, octets-number}
 use Rattle.octets.proofs.Pieces.{Each, none, more, each-length, flatten-append, flatten-one, flatten-pieces, pieces-flatten, pieces-snoc}
 use Rattle.octets.proofs.Puts.{take-put, put-length}
 use Rattle.rows.specs.Sizes.{label-bytes, tail-bytes, height-bytes, row-bytes}
@@ -22,6 +24,8 @@ pub record Typed (r : Row) : Type 0 where
   pub label : length (r .label) ≡ label-bytes
   pub tail : length (r .tail) ≡ tail-bytes
   pub height : r .height < 2 ^ 64
+  pub label-octets : Octets (r .label)
+  pub tail-octets : Octets (r .tail)
 
 pub data AllTyped : List Row → Type 0 where
   nil : AllTyped []
@@ -103,6 +107,42 @@ pub flattened-rows : (n : ℕ) (s : List ℕ) → row-bytes * n ≡ length s →
 unfolding flattened rows-of
 flattened-rows n s e o =
     ap flatten (string-cuts n s (omega arith) o) ∙ flatten-pieces row-bytes n s ∙ take-all (row-bytes * n) s (omega arith)
+
+-- the bytes of rows as their type has them are bytes
+string-octets : (r : Row) → Typed r → Octets (row-string r)
+unfolding row-string
+string-octets r t =
+    octets-append (r .label ++ r .tail) (bytes-of height-bytes (r .height)) (octets-append (r .label) (r .tail) (t .label-octets) (t .tail-octets))
+    (octets-number height-bytes (r .height))
+
+pub flattened-octets : {rows : List Row} → AllTyped rows → Octets (flattened rows)
+unfolding flattened flatten
+flattened-octets nil = λ i. lit< tt
+flattened-octets (cons {r} {rs} t ts) = octets-append (row-string r) (flatten (map row-string rs)) (string-octets r t) (flattened-octets ts)
+
+-- and the rows of bytes are as their type has them
+cut-typed : (s : List ℕ) → length s ≡ row-bytes → Octets s → Typed (row-cut s)
+unfolding row-cut
+cut-typed s n o =
+    let rest : List ℕ = drop (label-bytes + tail-bytes) s in
+    let l : length (take height-bytes rest) ≡ height-bytes = length-take-le height-bytes rest (omega (arith, length-drop (label-bytes + tail-bytes) s)) in
+    record {
+      label = length-take-le label-bytes s (omega arith);
+      tail = length-take-le tail-bytes (drop label-bytes s) (omega (arith, length-drop label-bytes s));
+      height =
+          subst (λ (m : ℕ). number-of (take height-bytes rest) < 256 ^ m) l
+          (number-below (take height-bytes rest) (octets-take height-bytes rest (octets-drop (label-bytes + tail-bytes) s o)));
+      label-octets = octets-take label-bytes s o;
+      tail-octets = octets-take tail-bytes (drop label-bytes s) (octets-drop label-bytes s o);
+    }
+
+pub rows-of-typed : (n : ℕ) (s : List ℕ) → row-bytes * n ≤ length s → Octets s → AllTyped (rows-of n s)
+unfolding rows-of pieces
+rows-of-typed zero s h o = nil
+rows-of-typed (suc n) s h o =
+    let e : row-bytes * suc n ≡ row-bytes * n + row-bytes = mul-suc row-bytes n in
+    cons (cut-typed (take row-bytes s) (length-take-le row-bytes s (omega arith)) (octets-take row-bytes s o))
+    (rows-of-typed n (drop row-bytes s) (omega (arith, length-drop row-bytes s)) (octets-drop row-bytes s o))
 
 typed-get : {rows : List Row} (i : ℕ) (d : Row) → AllTyped rows → i < length rows → Typed (getD rows i d)
 typed-get i d nil h = absurd (not-suc-le-zero h)
