@@ -1,201 +1,150 @@
--- The worked history is lawful: keepers are woken first and once, and all marks are honest. Assumes nothing.
-use mathlib.Core.Path.{_≡_, refl, sym, subst, subst₂}
-use mathlib.Core.List.{List, [], _∷_, _++_}
+-- The worked history is good: each call is accepted where it stands, keepers are woken first and once, marks are honest and strings told apart.
+-- Assumes nothing.
+use mathlib.Core.Path.{_≡_, refl, sym, ap, subst}
+use mathlib.Core.Bool.{true, false}
+use mathlib.Core.List.{List, _∷_}
 use Prim.Native.Nat.{ℕ}
-use lib.ListN.{replicate}
-use Rattle.octets.specs.Strings.{same, pieces}
-use Rattle.marks.specs.Entries.{pair-position, pair-marks}
-use Rattle.rack.specs.Racks.{rack-cut}
-use Rattle.rules.specs.Bundle.{old-position, old-marks, new-entries}
-use Rattle.rules.specs.Initialise.{initialise-statement}
-use Rattle.rules.specs.Check.{old-statement}
-use Rattle.desk.specs.Verdict.{Question}
-use Rattle.safety.specs.Calls.{Keeper, Call, Wake, statements-in, is-wake, Taken}
-use Rattle.safety.specs.Histories.{Event, At, Judged, keeper-after, called, at-front, behind, Returned, before-returned}
-use Rattle.safety.specs.Chip.{key-at, Honest, Shown, Marked, Orderly, Lawful, at-first, and-then}
-use Rattle.worked.proofs.Strings.{key-A, key-B, rack-A, rack-B, full-table, digest-A, block-A}
-use Rattle.worked.proofs.Goings.{Leaves, goes-on, orderly, returns, honest, only}
-use Rattle.worked.proofs.Story.{keepers, start, woken-A, founded-A, keeping-A, woken-B, prepared-B, active-B, receipt-A, leaving-A, entering-B, reading-B, founds-A, makes-A, leaves-A, enters-B}
-use Rattle.worked.proofs.Story.{bundle, activates-B, reads-B, signers, asks-A, asks-B, woken-first, founded, made, receipt-judged, left, woken-second, entered, activated, seen, history}
-use Rattle.worked.proofs.Steps.{strings, rules, step-1, step-2, step-3, step-4, step-5, step-6, step-7, step-8}
+use Rattle.octets.specs.Strings.{same}
+use Rattle.rules.specs.Initialise.{is-in-rack}
+use Rattle.desk.specs.declared.Finding.{Finding}
+use Rattle.safety.specs.Calls.{Wake, is-wake, sized}
+use Rattle.safety.specs.Histories.{called, at-front, behind}
+use Rattle.safety.specs.Chip.{Honest, claims-by}
+use Rattle.safety.specs.Hashed.{hashed-by}
+use Rattle.worked.proofs.Strings.{key, rack-A, rack-B, digest-A}
+use Rattle.worked.proofs.Racks.{in-A-1, in-A-2, in-A-3, in-B-4, in-B-5}
+use Rattle.worked.proofs.Rolls.{Page, young, grown, Kept, young-kept, grown-kept}
+use Rattle.worked.proofs.Goings.{Beat, turn, events, now, All, none, and, Good, begun, went, judged, Signed, here, before, honest}
+use Rattle.worked.proofs.Story.{keepers, start, woken, founded, keeping, finalised, prepared, active, parting, entering}
+use Rattle.worked.proofs.Story.{founds, makes, appends, leaves, enters, activates, reads}
+use Rattle.worked.proofs.Story.{woken-A, founded-A, made-A, grown-A, judged-A, left-A, woken-B, entered-B, active-B, read-B, told}
+use Rattle.worked.proofs.Steps.{wakes, founds-so, makes-so, appends-so, leaves-so, enters-so, reads-so}
+use Rattle.worked.proofs.Steps.{signs-receipt, signs-young, signs-grown, signs-entering, signs-reading}
+use Rattle.worked.proofs.Bundled.{activates-so, claimed, hashed-there}
+use Rattle.worked.proofs.Verdicts.{judged-A as finds-A, judged-B as finds-B, claimed-A, claimed-B}
+use Rattle.worked.proofs.Apart.{Told, told-A, told-B, told-young, told-grown}
 
--- the keepers as the history grows
-pub first-A : Leaves start [] key-A (start key-A)
-unfolding keeper-after
-first-A = record { keeper = refl }
+abbrev Fair : List Beat → Type 0
+Fair l = Good keepers start Told l
 
-pub then-A : Leaves start woken-first key-A woken-A
-then-A = goes-on step-1 first-A
+-- one more call, at a keeper that the history has left so
+module _ {l : List Beat} (who : List ℕ) (r : Fair l) where
+  wake : now start l who ≡ start who → called who (events l) ≡ false → Fair (turn who Wake (woken who) ∷ l)
+  unfolding is-wake sized claims-by hashed-by
+  wake n c = went (wakes who) n c refl none none r
 
-pub founded-is : Leaves start founded key-A founded-A
-founded-is = goes-on step-2 then-A
+  found : now start l who ≡ woken who → called who (events l) ≡ true → is-in-rack who rack-A ≡ true → Fair (turn who founds (founded who) ∷ l)
+  unfolding is-wake sized claims-by hashed-by
+  found n c e = went (founds-so who e) n c refl none none r
 
-made-is : Leaves start made key-A keeping-A
-made-is = goes-on step-3 founded-is
+  make : now start l who ≡ founded who → called who (events l) ≡ true → Fair (turn who makes (keeping who young) ∷ l)
+  unfolding is-wake sized claims-by hashed-by
+  make n c = went (makes-so who) n c refl none none r
 
-pub judged-is : Leaves start receipt-judged key-A keeping-A
-unfolding keeper-after
-judged-is = record { keeper = made-is .keeper }
+  append : now start l who ≡ keeping who young → called who (events l) ≡ true → Fair (turn who appends (keeping who grown) ∷ l)
+  unfolding is-wake sized claims-by hashed-by
+  append n c = went (appends-so who) n c refl none none r
 
-pub first-B : Leaves start left key-B (start key-B)
-unfolding keeper-after same
-first-B = record { keeper = refl }
+  leave : {p : Page} → Kept p → Told (p .string) → now start l who ≡ keeping who p → called who (events l) ≡ true
+      → Fair (turn who leaves (finalised who p) ∷ l)
+  unfolding is-wake sized claims-by hashed-by
+  leave k t n c = went (leaves-so who k) n c refl none (and (subst Told (sym (k .string-is)) t) none) r
 
-pub then-B : Leaves start woken-second key-B woken-B
-then-B = goes-on step-5 first-B
+  enter : now start l who ≡ woken who → called who (events l) ≡ true → is-in-rack who rack-B ≡ true → Fair (turn who enters (prepared who) ∷ l)
+  unfolding is-wake sized claims-by hashed-by digest-A
+  enter n c e = went (enters-so who e) n c refl none none r
 
-pub entered-is : Leaves start entered key-B prepared-B
-entered-is = goes-on step-6 then-B
+  read : now start l who ≡ active who → called who (events l) ≡ true → Fair (turn who reads (active who) ∷ l)
+  unfolding is-wake sized claims-by hashed-by
+  read n c = went (reads-so who) n c refl none none r
 
-pub activated-is : Leaves start activated key-B active-B
-activated-is = goes-on step-7 entered-is
+  -- with the words of the third and the first keeper, and of the fifth and the fourth
+  activate : now start l who ≡ prepared who → called who (events l) ≡ true
+      → Signed start (key 3) (parting young) l → Signed start (key 1) (parting grown) l → Signed start (key 5) entering l → Signed start (key 4) entering l
+      → Fair (turn who activates (active who) ∷ l)
+  unfolding is-wake sized
+  activate n c three one five four =
+      went (activates-so who) n c refl
+      (subst (All (Honest keepers start (events l))) (sym (claimed who))
+      (and (honest 3 (behind (behind at-front)) r three)
+      (and (honest 3 at-front r one)
+      (and (honest 3 (behind (behind (behind (behind at-front)))) r five)
+      (and (honest 3 (behind (behind (behind at-front))) r four) none)))))
+      (subst (All Told) (sym (hashed-there who)) (and told-A (and told-B (and told-young (and told-grown none)))))
+      r
 
--- what they returned for signing
-signs-3 : statements-in makes-A receipt-A ≡ receipt-A ∷ []
-unfolding strings statements-in
-signs-3 = refl
+-- rack A
+woken-fair : Fair woken-A
+unfolding called same
+woken-fair = wake (key 3) (wake (key 2) (wake (key 1) begun refl refl) refl refl) refl refl
 
-signs-4 : statements-in leaves-A (leaving-A ++ block-A ++ replicate 3072 0) ≡ leaving-A ∷ []
-unfolding strings statements-in
-signs-4 = refl
+founded-fair : Fair founded-A
+unfolding called same
+founded-fair = found (key 3) (found (key 2) (found (key 1) woken-fair refl refl in-A-1) refl refl in-A-2) refl refl in-A-3
 
-signs-6 : statements-in enters-B entering-B ≡ entering-B ∷ []
-unfolding strings statements-in
-signs-6 = refl
+made-fair : Fair made-A
+unfolding called same
+made-fair = make (key 3) (make (key 2) (make (key 1) founded-fair refl refl) refl refl) refl refl
 
-signs-8 : statements-in reads-B reading-B ≡ reading-B ∷ []
-unfolding strings statements-in
-signs-8 = refl
+grown-fair : Fair grown-A
+unfolding called same
+grown-fair = append (key 2) (append (key 1) made-fair refl refl) refl refl
 
-receipt-returned : Returned start key-A receipt-A made
-receipt-returned = returns step-3 founded-is signs-3
+judged-fair : Fair judged-A
+unfolding same
+judged-fair =
+    judged (ap (λ (f : Finding). f .number) finds-A)
+    (subst (All (Honest keepers start (events grown-A))) (sym claimed-A)
+    (and (honest 3 (behind at-front) grown-fair (here (signs-receipt (key 2))))
+    (and (honest 3 at-front grown-fair (before (here (signs-receipt (key 1))))) none)))
+    told-A
+    grown-fair
 
-leaving-returned : Returned start key-A leaving-A entered
-leaving-returned = before-returned (before-returned (returns step-4 judged-is signs-4))
+left-fair : Fair left-A
+unfolding called same
+left-fair = leave (key 3) (leave (key 1) judged-fair grown-kept told-grown refl refl) young-kept told-young refl refl
 
-entering-returned : Returned start key-B entering-B entered
-entering-returned = returns step-6 then-B signs-6
+-- rack B
+woken-B-fair : Fair woken-B
+unfolding called same
+woken-B-fair = wake (key 5) (wake (key 4) left-fair refl refl) refl refl
 
-reading-returned : Returned start key-B reading-B seen
-reading-returned = returns step-8 activated-is signs-8
+entered-fair : Fair entered-B
+unfolding called same
+entered-fair = enter (key 5) (enter (key 4) woken-B-fair refl refl in-B-4) refl refl in-B-5
 
--- woken first and once, and arguments of their sizes
-order-1 : Orderly start [] (At key-A Wake)
-unfolding called is-wake Taken
-order-1 = orderly step-1 first-A refl (record { long = refl }) tt
+-- what rack B's bundle speaks of, as it was returned
+three : Signed start (key 3) (parting young) entered-B
+unfolding same
+three = before (before (before (before (here (signs-young (key 3))))))
 
-order-2 : Orderly start woken-first (At key-A founds-A)
-unfolding called same is-wake Taken
-order-2 = orderly step-2 then-A refl (record { long = refl }) (record { long = refl })
+one : Signed start (key 1) (parting grown) entered-B
+unfolding same
+one = before (before (before (before (before (here (signs-grown (key 1)))))))
 
-order-3 : Orderly start founded (At key-A makes-A)
-unfolding called same is-wake Taken
-order-3 = orderly step-3 founded-is refl (record { long = refl }) (record { long = refl })
+five : Signed start (key 5) entering entered-B
+unfolding same
+five = here (signs-entering (key 5) in-B-5)
 
-order-4 : Orderly start receipt-judged (At key-A leaves-A)
-unfolding called same is-wake Taken
-order-4 = orderly step-4 judged-is refl (record { long = refl }) tt
+four : Signed start (key 4) entering entered-B
+unfolding same
+four = before (here (signs-entering (key 4) in-B-4))
 
-order-5 : Orderly start left (At key-B Wake)
-unfolding called same is-wake Taken
-order-5 = orderly step-5 first-B refl (record { long = refl }) tt
+active-fair : Fair active-B
+unfolding called same
+active-fair =
+    activate (key 5) (activate (key 4) entered-fair refl refl three one five four) refl refl (before three) (before one) (before five) (before four)
 
-order-6 : Orderly start woken-second (At key-B enters-B)
-unfolding called same is-wake Taken digest-A
-order-6 = orderly step-6 then-B refl (record { long = refl }) (record { long = refl })
+read-fair : Fair read-B
+unfolding called same
+read-fair = read (key 5) (read (key 4) active-fair refl refl) refl refl
 
-order-7 : Orderly start entered (At key-B activates-B)
-unfolding called same is-wake Taken
-order-7 = orderly step-7 entered-is refl (record { long = refl }) tt
-
-order-8 : Orderly start activated (At key-B reads-B)
-unfolding called same is-wake Taken
-order-8 = orderly step-8 activated-is refl (record { long = refl }) (record { long = refl }, record { long = refl })
-
--- the keys at the first place of the racks
-place-A : key-at rack-A 0 ≡ key-A
-unfolding key-at rack-cut pieces
-place-A = refl
-
-place-B : key-at rack-B 0 ≡ key-B
-unfolding key-at rack-cut pieces
-place-B = refl
-
--- and what the bundle's marks speak of
-old-key : key-at rack-A (old-position bundle 0) ≡ key-A
-unfolding rules key-at
-old-key = refl
-
-old-speaks : old-statement (prepared-B .head) bundle 0 ≡ leaving-A
-unfolding rules old-statement
-old-speaks = refl
-
-new-key : key-at rack-B (pair-position (new-entries bundle) 0) ≡ key-B
-unfolding rules key-at
-new-key = refl
-
-new-speaks : initialise-statement (prepared-B .head) full-table ≡ entering-B
-unfolding rules
-new-speaks = refl
-
-old-honest : Honest keepers start entered (key-at rack-A (old-position bundle 0)) (old-marks bundle 0) (old-statement (prepared-B .head) bundle 0)
-old-honest =
-    subst₂ (λ (k s : List ℕ). Honest keepers start entered k (old-marks bundle 0) s) (sym old-key) (sym old-speaks)
-    (honest (old-marks bundle 0) at-front leaving-returned)
-
-new-honest :
-    Honest keepers start entered (key-at rack-B (pair-position (new-entries bundle) 0)) (pair-marks (new-entries bundle) 0) (initialise-statement (prepared-B .head) full-table)
-new-honest =
-    subst₂ (λ (k s : List ℕ). Honest keepers start entered k (pair-marks (new-entries bundle) 0) s) (sym new-key) (sym new-speaks)
-    (honest (pair-marks (new-entries bundle) 0) (behind at-front) entering-returned)
-
-shown-7 : Shown keepers start entered prepared-B activates-B
-unfolding Shown rules
-shown-7 = (
-  only (λ i. Honest keepers start entered (key-at rack-A (old-position bundle i)) (old-marks bundle i) (old-statement (prepared-B .head) bundle i)) old-honest,
-  only (λ i. Honest keepers start entered (key-at rack-B (pair-position (new-entries bundle) i)) (pair-marks (new-entries bundle) i) (initialise-statement (prepared-B .head) full-table)) new-honest,
-)
-
-marks-7 : Marked keepers start entered (At key-B activates-B)
-unfolding Marked
-marks-7 a = subst (λ (k : Keeper). Shown keepers start entered k activates-B) (sym (entered-is .keeper)) shown-7
-
-marks-A : Marked keepers start made (Judged asks-A receipt-A signers)
-unfolding Marked
-marks-A a =
-    only (λ i. Honest keepers start made (key-at rack-A (pair-position signers i)) (pair-marks signers i) receipt-A)
-    (subst (λ (k : List ℕ). Honest keepers start made k 3 receipt-A) (sym place-A) (honest 3 at-front receipt-returned))
-
-marks-B : Marked keepers start seen (Judged asks-B reading-B signers)
-unfolding Marked
-marks-B a =
-    only (λ i. Honest keepers start seen (key-at rack-B (pair-position signers i)) (pair-marks signers i) reading-B)
-    (subst (λ (k : List ℕ). Honest keepers start seen k 3 reading-B) (sym place-B) (honest 3 (behind at-front) reading-returned))
-
--- a call that is shown no marks
-unmarked : (h : List Event) (key : List ℕ) (call : Call) → ((k : Keeper) → Shown keepers start h k call) → Marked keepers start h (At key call)
-unfolding Marked
-unmarked h key call f a = f (keeper-after start h key)
-
--- a verdict has no order
-unordered : (h : List Event) (q : Question) (s t : List ℕ) → Orderly start h (Judged q s t)
-unfolding Orderly
-unordered h q s t = tt
-
-lawful-A : Lawful keepers start left
-unfolding Shown
-lawful-A =
-    and-then order-4 (unmarked receipt-judged key-A leaves-A (λ k. tt))
-    (and-then (unordered made asks-A receipt-A signers) marks-A
-    (and-then order-3 (unmarked founded key-A makes-A (λ k. tt))
-    (and-then order-2 (unmarked woken-first key-A founds-A (λ k. tt))
-    (and-then order-1 (unmarked [] key-A Wake (λ k. tt)) at-first))))
-
-pub lawful : Lawful keepers start history
-unfolding Shown
-lawful =
-    and-then (unordered seen asks-B reading-B signers) marks-B
-    (and-then order-8 (unmarked activated key-B reads-B (λ k. tt))
-    (and-then order-7 marks-7
-    (and-then order-6 (unmarked woken-second key-B enters-B (λ k. tt))
-    (and-then order-5 (unmarked left key-B Wake (λ k. tt)) lawful-A))))
+pub good : Good keepers start Told told
+unfolding same
+good =
+    judged (ap (λ (f : Finding). f .number) finds-B)
+    (subst (All (Honest keepers start (events read-B))) (sym claimed-B)
+    (and (honest 3 (behind (behind (behind (behind at-front)))) read-fair (here (signs-reading (key 5))))
+    (and (honest 3 (behind (behind (behind at-front))) read-fair (before (here (signs-reading (key 4))))) none)))
+    told-B
+    read-fair
