@@ -6,7 +6,6 @@ use Prim.Native.Nat.{ℕ}
 use native.Mathlib.Omega.{arith}
 use borrow.Author.Tests.{eq-eqb, eqb-true}
 use lib.ListN.{length}
-use lib.Dec.{eqb}
 use Rattle.refusals.specs.{accepted}
 use Rattle.octets.proofs.RoundTrips.{and-left, and-right}
 use Rattle.marks.specs.{attested, valid}

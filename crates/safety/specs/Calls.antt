@@ -89,7 +89,7 @@ is-wake (Finalise next area) = false
 is-wake (Activate previous own bundle) = false
 is-wake (Bytes-to-check previous own bundle list entry area) = false
 
--- "Keys, digests, labels and nonces are taken at their fixed sizes": those that statements are written with
+-- "Keys, digests, labels and nonces are taken at their fixed sizes." It is asked of identities and labels alone.
 unfoldable pub sized : Call → Bool
 sized Wake = true
 sized (Initialise identity roll previous own area) = eqb (length identity) digest-bytes

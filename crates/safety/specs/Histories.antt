@@ -25,7 +25,7 @@ called key [] = false
 called key (At k call ∷ h) = same k key || called key h
 called key (Judged q s signers ∷ h) = called key h
 
--- "each woken once, before any other call": the first call at a key, and no later one, is a Wake, and it is accepted; arguments have their fixed sizes
+-- "each woken once, before any other call": the first call at a key, and no later one, is a Wake, and it is accepted; later ones have arguments of their sizes
 unfoldable pub in-order : (List ℕ → Keeper) → List Event → Event → Bool
 in-order start h (At key call) =
     cond (is-wake call)
