@@ -1,93 +1,164 @@
--- What the outcome of an accepted call says of the history that it is added to. Assumes nothing.
-use mathlib.Core.Path.{_≡_, sym, ap, subst, _∙_}
+-- Histories told with the keeper that each call leaves, and what the outcomes of their calls say of the premises of demand 3. Assumes nothing.
+use mathlib.Core.Path.{_≡_, refl, sym, ap, subst, _∙_}
 use mathlib.Core.Bool.{Bool, true, false, not, cond, _&&_}
 use mathlib.Core.List.{List, [], _∷_}
 use Prim.Native.Nat.{ℕ}
 use lib.Dec.{eqb}
 use Rattle.refusals.specs.{accepted}
-use Rattle.octets.proofs.RoundTrips.{same-refl}
-use Rattle.rules.specs.Outcomes.{Outcome, accepting}
-use Rattle.safety.specs.Calls.{Keeper, Call, lent, outcome-of, left-by, accepts, statements-in, for-signing, is-wake, sized}
-use Rattle.safety.specs.Histories.{Event, At, keeper-after, called, in-order, _∈_, at-front, behind, Returned, now-returned}
-use Rattle.safety.specs.Chip.{Claim, claims-by, claims, Honest}
-use Rattle.safety.specs.Hashed.{hashed-by, hashed-at}
+use Rattle.octets.specs.Strings.{put, same}
+use Rattle.octets.proofs.RoundTrips.{same-is}
+use Rattle.rack.specs.Racks.{rack-string}
+use Rattle.rules.specs.Outcomes.{Outcome, given}
+use Rattle.desk.specs.Verdict.{Question, signer-count, judging}
+use Rattle.safety.specs.Calls.{Keeper, Call, outcome-of, left-by, accepts, statements-in, for-signing, is-wake, sized}
+use Rattle.safety.specs.Histories.{Event, At, Judged, keeper-after, called, in-order, orderly, _∈_, at-front, behind, listed}
+use Rattle.safety.specs.Histories.{Returned, now-returned, before-returned}
+use Rattle.safety.specs.Chip.{Claim, signer-claim, claims-by, claims, Honest, Honest-chip, at-first, and-then}
+use Rattle.safety.specs.Hashed.{hashed-by, hashed-at, Hashed, now-hashed, before-hashed}
 
--- a call is accepted, so many bytes are written, and a keeper and an area are left
-abbrev pub leaving-with : ℕ → Keeper → List ℕ → Outcome
-leaving-with n k area = record { answer = accepting n; left = lent k area }
+-- a call at a key with the keeper that it leaves, or a verdict
+pub data Beat : Type 0 where
+  turn : (who : List ℕ) → Call → Keeper → Beat
+  verdict : Question → (statement signers : List ℕ) → Beat
 
-pub record Goes (key : List ℕ) (k : Keeper) (call : Call) (n : ℕ) (k' : Keeper) (area : List ℕ) : Type 0 where
-  pub outcome : outcome-of key k call ≡ leaving-with n k' area
+abbrev pub event : Beat → Event
+event (turn who call left) = At who call
+event (verdict q s signers) = Judged q s signers
 
--- a history leaves the keeper with a key so
-pub record Leaves (start : List ℕ → Keeper) (h : List Event) (key : List ℕ) (k : Keeper) : Type 0 where
-  pub keeper : keeper-after start h key ≡ k
+abbrev pub events : List Beat → List Event
+events [] = []
+events (b ∷ l) = event b ∷ events l
 
--- the call at a keeper, by its outcome
-module _ {key : List ℕ} {k k' : Keeper} {call : Call} {n : ℕ} {area : List ℕ} (g : Goes key k call n k' area) where
-  accepts-so : accepts key k call ≡ true
-  unfolding accepts
-  accepts-so = ap (λ (o : Outcome). eqb (o .answer .number) accepted) (g .outcome)
+-- the keeper with a key after so much
+abbrev pub now : (List ℕ → Keeper) → List Beat → List ℕ → Keeper
+now start [] x = start x
+now start (turn who call left ∷ l) x = cond (same who x) left (now start l x)
+now start (verdict q s signers ∷ l) x = now start l x
 
-  leaves-so : left-by key k call ≡ k'
-  unfolding left-by
-  leaves-so = ap (λ (o : Outcome). record { head = o .left .head; table = o .left .table }) (g .outcome)
+-- a call is accepted at a keeper, leaves another and writes so many bytes into an area
+pub record Gives (who : List ℕ) (k : Keeper) (call : Call) (left : Keeper) (bytes area : List ℕ) : Type 0 where
+  pub outcome-is : outcome-of who k call ≡ given bytes (left .head) (left .table) area
 
-  signs-so : for-signing key k call ≡ statements-in call area
-  unfolding for-signing accepts
-  signs-so = ap (λ (o : Outcome). cond (eqb (o .answer .number) accepted && not (o .answer .repeat)) (statements-in call (o .left .area)) []) (g .outcome)
+module _ {who : List ℕ} {k : Keeper} {call : Call} {left : Keeper} {bytes area : List ℕ} (g : Gives who k call left bytes area) where
+  accepts-so : accepts who k call ≡ true
+  unfolding accepts given
+  accepts-so = ap (λ (o : Outcome). eqb (o .answer .number) accepted) (g .outcome-is)
 
-  -- after a history that left the keeper so
-  module _ {start : List ℕ → Keeper} {h : List Event} (l : Leaves start h key k) where
-    pub is-accepted : accepts key (keeper-after start h key) call ≡ true
-    is-accepted = ap (λ (x : Keeper). accepts key x call) (l .keeper) ∙ accepts-so
+  leaves-so : left-by who k call ≡ left
+  unfolding left-by given
+  leaves-so = ap (λ (o : Outcome). record { head = o .left .head; table = o .left .table }) (g .outcome-is)
 
-    keeper-then : keeper-after start (At key call ∷ h) key ≡ k'
-    unfolding keeper-after
-    keeper-then =
-        ap (λ (b : Bool). cond b (left-by key (keeper-after start h key) call) (keeper-after start h key)) (same-refl key)
-        ∙ ap (λ (x : Keeper). left-by key x call) (l .keeper)
-        ∙ leaves-so
+  pub signs-so : for-signing who k call ≡ statements-in call (put area 0 bytes)
+  unfolding for-signing accepts given
+  signs-so =
+      ap (λ (o : Outcome). cond (eqb (o .answer .number) accepted && not (o .answer .repeat)) (statements-in call (o .left .area)) []) (g .outcome-is)
 
-    pub goes-on : Leaves start (At key call ∷ h) key k'
-    goes-on = record { keeper = keeper-then }
-
-    pub wakes-first : is-wake call ≡ true → called key h ≡ false → in-order start h (At key call) ≡ true
-    unfolding in-order
-    wakes-first w c = rw (w, c, is-accepted)
-
-    pub returns : {s : List ℕ} → statements-in call area ≡ s ∷ [] → Returned start key s (At key call ∷ h)
-    returns {s} e =
-        now-returned (subst (λ (l : List (List ℕ)). s ∈ l) (sym (ap (λ (x : Keeper). for-signing key x call) (l .keeper) ∙ signs-so ∙ e)) at-front)
-
-    pub hashes : hashed-at start h (At key call) ≡ hashed-by k call
-    unfolding hashed-at
-    hashes =
-        ap (λ (b : Bool). cond b (hashed-by (keeper-after start h key) call) []) is-accepted ∙ ap (λ (x : Keeper). hashed-by x call) (l .keeper)
-
-    pub shows : claims start h (At key call) ≡ claims-by k call
-    unfolding claims
-    shows = ap (λ (b : Bool). cond b (claims-by (keeper-after start h key) call) []) is-accepted ∙ ap (λ (x : Keeper). claims-by x call) (l .keeper)
-
--- a call after the Wake
-pub acts-later : (start : List ℕ → Keeper) (h : List Event) (key : List ℕ) (call : Call) → is-wake call ≡ false → called key h ≡ true → sized call ≡ true
-    → in-order start h (At key call) ≡ true
-unfolding in-order
-acts-later start h key call w c s = rw (w, c, s)
-
--- marks of a keeper's key on what it had returned
-abbrev pub claim : List ℕ → ℕ → List ℕ → Claim
-claim key marks s = record { key = key; marks = marks; statement = s }
-
-pub honest : {keepers : List (List ℕ)} {start : List ℕ → Keeper} {h : List Event} {key s : List ℕ} (marks : ℕ)
-    → key ∈ keepers → Returned start key s h → Honest keepers start h (claim key marks s)
-honest marks m r = record { attests = λ a. m; validates = λ v k. r }
-
--- all elements of a list
+-- each of a list
 pub data All {A : Type 0} (P : A → Type 0) : List A → Type 0 where
   none : All P []
   and : {x : A} {l : List A} → P x → All P l → All P (x ∷ l)
 
-pub one-of : {A : Type 0} {P : A → Type 0} {x : A} {l : List A} → x ∈ l → All P l → P x
-one-of at-front (and t a) = t
-one-of (behind m) (and t a) = one-of m a
+all-of : {A : Type 0} {P : A → Type 0} {x : A} {l : List A} → x ∈ l → All P l → P x
+all-of at-front (and p a) = p
+all-of (behind m) (and p a) = all-of m a
+
+-- each call is accepted where it stands, first woken, with arguments of their sizes; what marks claim is honest; and the strings hashed are told
+pub data Good (keepers : List (List ℕ)) (start : List ℕ → Keeper) (Told : List ℕ → Type 0) : List Beat → Type 0 where
+  begun : Good keepers start Told []
+  went : {who : List ℕ} {k : Keeper} {call : Call} {left : Keeper} {bytes area : List ℕ} {l : List Beat}
+      → Gives who k call left bytes area
+      → now start l who ≡ k
+      → called who (events l) ≡ not (is-wake call)
+      → sized call ≡ true
+      → All (Honest keepers start (events l)) (claims-by k call)
+      → All Told (hashed-by k call)
+      → Good keepers start Told l
+      → Good keepers start Told (turn who call left ∷ l)
+  judged : {q : Question} {s signers : List ℕ} {l : List Beat}
+      → judging q s signers .number ≡ accepted
+      → All (Honest keepers start (events l)) (listed (signer-count signers) (signer-claim q s signers))
+      → Told (rack-string (q .rack))
+      → Good keepers start Told l
+      → Good keepers start Told (verdict q s signers ∷ l)
+
+either-way : (b : Bool) (x y u v : Keeper) → (b ≡ true → x ≡ u) → (b ≡ false → y ≡ v) → cond b x y ≡ cond b u v
+either-way true x y u v f g = f refl
+either-way false x y u v f g = g refl
+
+ordered : (wakes before accepted fixed : Bool) → before ≡ not wakes → accepted ≡ true → fixed ≡ true
+    → cond wakes (not before && accepted) (before && fixed) ≡ true
+ordered true before accepted fixed p q r = λ i. not (p i) && q i
+ordered false before accepted fixed p q r = λ i. p i && r i
+
+module _ {keepers : List (List ℕ)} {start : List ℕ → Keeper} {Told : List ℕ → Type 0} where
+  -- the records are those told
+  pub kept-so : {l : List Beat} → Good keepers start Told l → (x : List ℕ) → keeper-after start (events l) x ≡ now start l x
+  unfolding keeper-after
+  kept-so begun x = refl
+  kept-so (went {who = who} {call = call} {left = left} {l = l} g n c z h t r) x =
+      either-way (same who x) (left-by x (keeper-after start (events l) x) call) (keeper-after start (events l) x) left (now start l x)
+      (λ e.
+      subst (λ (y : List ℕ). left-by y (keeper-after start (events l) y) call ≡ left) (same-is who x e)
+      (ap (λ (y : Keeper). left-by who y call) (kept-so r who ∙ n) ∙ leaves-so g))
+      (λ e. kept-so r x)
+  kept-so (judged e h t r) x = kept-so r x
+
+  module _ {who : List ℕ} {k : Keeper} {call : Call} {left : Keeper} {bytes area : List ℕ} {l : List Beat}
+      (g : Gives who k call left bytes area) (n : now start l who ≡ k) (r : Good keepers start Told l) where
+    accepted-there : accepts who (keeper-after start (events l) who) call ≡ true
+    accepted-there = ap (λ (x : Keeper). accepts who x call) (kept-so r who ∙ n) ∙ accepts-so g
+
+    claims-there : claims start (events l) (At who call) ≡ claims-by k call
+    unfolding claims
+    claims-there = λ i. cond (accepted-there i) (claims-by ((kept-so r who ∙ n) i) call) []
+
+    hashed-there : hashed-at start (events l) (At who call) ≡ hashed-by k call
+    unfolding hashed-at
+    hashed-there = λ i. cond (accepted-there i) (hashed-by ((kept-so r who ∙ n) i) call) []
+
+  pub order-so : {l : List Beat} → Good keepers start Told l → orderly start (events l) ≡ true
+  unfolding orderly in-order
+  order-so begun = refl
+  order-so (went {who = who} {call = call} {l = l} g n c z h t r) =
+      λ i.
+      ordered (is-wake call) (called who (events l)) (accepts who (keeper-after start (events l) who) call) (sized call) c (accepted-there g n r) z i
+      && order-so r i
+  order-so (judged e h t r) = order-so r
+
+  pub chip-so : {l : List Beat} → Good keepers start Told l → Honest-chip keepers start (events l)
+  unfolding claims
+  chip-so begun = at-first
+  chip-so (went g n c z h t r) = and-then (λ x m. all-of (subst (λ (y : List Claim). x ∈ y) (claims-there g n r) m) h) (chip-so r)
+  chip-so (judged {q = q} {s = s} {signers = signers} e h t r) =
+      and-then
+      (λ x m.
+      all-of
+      (subst (λ (y : List Claim). x ∈ y)
+      (ap (λ (n : ℕ). cond (eqb n accepted) (listed (signer-count signers) (signer-claim q s signers)) []) e) m)
+      h)
+      (chip-so r)
+
+  pub told-so : {l : List Beat} {s : List ℕ} → Good keepers start Told l → Hashed start s (events l) → Told s
+  unfolding hashed-at
+  told-so {s = s} (went g n c z h t r) (now-hashed m) = all-of (subst (λ (y : List (List ℕ)). s ∈ y) (hashed-there g n r) m) t
+  told-so (went g n c z h t r) (before-hashed m) = told-so r m
+  told-so {s = s} (judged {q = q} e h t r) (now-hashed m) =
+      all-of {P = Told} (subst (λ (y : List (List ℕ)). s ∈ y) (ap (λ (n : ℕ). cond (eqb n accepted) (rack-string (q .rack) ∷ []) []) e) m) (and t none)
+  told-so (judged e h t r) (before-hashed m) = told-so r m
+
+-- a statement was returned at a key
+pub data Signed (start : List ℕ → Keeper) (who s : List ℕ) : List Beat → Type 0 where
+  here : {call : Call} {left : Keeper} {l : List Beat} → for-signing who (now start l who) call ≡ s ∷ [] → Signed start who s (turn who call left ∷ l)
+  before : {b : Beat} {l : List Beat} → Signed start who s l → Signed start who s (b ∷ l)
+
+module _ {keepers : List (List ℕ)} {start : List ℕ → Keeper} {Told : List ℕ → Type 0} {who s : List ℕ} where
+  returned : {l : List Beat} → Good keepers start Told l → Signed start who s l → Returned start who s (events l)
+  returned (went g n c z h t r) (here {call = call} e) =
+      now-returned (subst (λ (y : List (List ℕ)). s ∈ y) (sym (ap (λ (x : Keeper). for-signing who x call) (kept-so r who) ∙ e)) at-front)
+  returned (went g n c z h t r) (before m) = before-returned (returned r m)
+  returned (judged e h t r) (before m) = before-returned (returned r m)
+
+  -- so marks on it are honest
+  pub honest : {l : List Beat} (marks : ℕ) → who ∈ keepers → Good keepers start Told l → Signed start who s l
+      → Honest keepers start (events l) (record { key = who; marks = marks; statement = s })
+  honest marks m r e = record { attests = λ a. m; validates = λ v k. returned r e }

@@ -1,217 +1,150 @@
--- The worked history is in order, keepers being woken first and once, and its chip is honest. Assumes nothing.
-use mathlib.Core.Path.{_≡_, refl, ap, subst, _∙_}
-use mathlib.Core.Bool.{true, cond}
-use mathlib.Core.List.{List, [], _∷_, _++_}
+-- The worked history is good: each call is accepted where it stands, keepers are woken first and once, marks are honest and strings told apart.
+-- Assumes nothing.
+use mathlib.Core.Path.{_≡_, refl, sym, ap, subst}
+use mathlib.Core.Bool.{true, false}
+use mathlib.Core.List.{List, _∷_}
 use Prim.Native.Nat.{ℕ}
-use lib.ListN.{replicate}
-use lib.Dec.{eqb}
-use Rattle.refusals.specs.{accepted}
-use Rattle.octets.specs.Strings.{same, pieces}
-use Rattle.rack.specs.Racks.{rack-cut}
-use Rattle.rules.specs.Check.{old-statement}
+use Rattle.octets.specs.Strings.{same}
+use Rattle.rules.specs.Initialise.{is-in-rack}
 use Rattle.desk.specs.declared.Finding.{Finding}
-use Rattle.desk.specs.Verdict.{Question, judging}
-use Rattle.safety.specs.Calls.{Keeper, Call, Wake, statements-in, is-wake, sized}
-use Rattle.safety.specs.Histories.{Event, At, Judged, keeper-after, called, in-order, orderly, _∈_, at-front, behind, listed, Returned, before-returned}
-use Rattle.safety.specs.Chip.{Claim, key-at, old-claim, new-claim, signer-claim, claims-by, claims, Honest, Honest-chip, at-first, and-then}
-use Rattle.worked.proofs.Strings.{key-A, key-B, rack-A, rack-B, digest-A, block-A}
-use Rattle.worked.proofs.Goings.{Goes, Leaves, goes-on, wakes-first, acts-later, returns, shows, claim, honest, All, none, and, one-of}
-use Rattle.worked.proofs.Story.{keepers, start, woken-A, founded-A, keeping-A, woken-B, prepared-B, active-B, receipt-A, leaving-A, entering-B, reading-B, founds-A, makes-A, leaves-A, enters-B}
-use Rattle.worked.proofs.Story.{activates-B, reads-B, signers, asks-A, asks-B, woken-first, founded, made, receipt-judged, left, woken-second, entered, activated, seen, history}
-use Rattle.worked.proofs.Steps.{strings, rules, step-1, step-2, step-3, step-4, step-5, step-6, step-7, step-8}
-use Rattle.worked.proofs.Verdicts.{finds, verdict-A, verdict-B}
+use Rattle.safety.specs.Calls.{Wake, is-wake, sized}
+use Rattle.safety.specs.Histories.{called, at-front, behind}
+use Rattle.safety.specs.Chip.{Honest, claims-by}
+use Rattle.safety.specs.Hashed.{hashed-by}
+use Rattle.worked.proofs.Strings.{key, rack-A, rack-B, digest-A}
+use Rattle.worked.proofs.Racks.{in-A-1, in-A-2, in-A-3, in-B-4, in-B-5}
+use Rattle.worked.proofs.Rolls.{Page, young, grown, Kept, young-kept, grown-kept}
+use Rattle.worked.proofs.Goings.{Beat, turn, events, now, All, none, and, Good, begun, went, judged, Signed, here, before, honest}
+use Rattle.worked.proofs.Story.{keepers, start, woken, founded, keeping, finalised, prepared, active, parting, entering}
+use Rattle.worked.proofs.Story.{founds, makes, appends, leaves, enters, activates, reads}
+use Rattle.worked.proofs.Story.{woken-A, founded-A, made-A, grown-A, judged-A, left-A, woken-B, entered-B, active-B, read-B, told}
+use Rattle.worked.proofs.Steps.{wakes, founds-so, makes-so, appends-so, leaves-so, enters-so, reads-so}
+use Rattle.worked.proofs.Steps.{signs-receipt, signs-young, signs-grown, signs-entering, signs-reading}
+use Rattle.worked.proofs.Bundled.{activates-so, claimed, hashed-there}
+use Rattle.worked.proofs.Verdicts.{judged-A as finds-A, judged-B as finds-B, claimed-A, claimed-B}
+use Rattle.worked.proofs.Apart.{Told, told-A, told-B, told-young, told-grown}
 
--- the keepers as the history grows
-pub first-A : Leaves start [] key-A (start key-A)
-unfolding keeper-after
-first-A = record { keeper = refl }
+abbrev Fair : List Beat → Type 0
+Fair l = Good keepers start Told l
 
-pub then-A : Leaves start woken-first key-A woken-A
-then-A = goes-on step-1 first-A
+-- one more call, at a keeper that the history has left so
+module _ {l : List Beat} (who : List ℕ) (r : Fair l) where
+  wake : now start l who ≡ start who → called who (events l) ≡ false → Fair (turn who Wake (woken who) ∷ l)
+  unfolding is-wake sized claims-by hashed-by
+  wake n c = went (wakes who) n c refl none none r
 
-pub founded-is : Leaves start founded key-A founded-A
-founded-is = goes-on step-2 then-A
+  found : now start l who ≡ woken who → called who (events l) ≡ true → is-in-rack who rack-A ≡ true → Fair (turn who founds (founded who) ∷ l)
+  unfolding is-wake sized claims-by hashed-by
+  found n c e = went (founds-so who e) n c refl none none r
 
-made-is : Leaves start made key-A keeping-A
-made-is = goes-on step-3 founded-is
+  make : now start l who ≡ founded who → called who (events l) ≡ true → Fair (turn who makes (keeping who young) ∷ l)
+  unfolding is-wake sized claims-by hashed-by
+  make n c = went (makes-so who) n c refl none none r
 
-pub judged-is : Leaves start receipt-judged key-A keeping-A
-unfolding keeper-after
-judged-is = record { keeper = made-is .keeper }
+  append : now start l who ≡ keeping who young → called who (events l) ≡ true → Fair (turn who appends (keeping who grown) ∷ l)
+  unfolding is-wake sized claims-by hashed-by
+  append n c = went (appends-so who) n c refl none none r
 
-pub first-B : Leaves start left key-B (start key-B)
-unfolding keeper-after same
-first-B = record { keeper = refl }
+  leave : {p : Page} → Kept p → Told (p .string) → now start l who ≡ keeping who p → called who (events l) ≡ true
+      → Fair (turn who leaves (finalised who p) ∷ l)
+  unfolding is-wake sized claims-by hashed-by
+  leave k t n c = went (leaves-so who k) n c refl none (and (subst Told (sym (k .string-is)) t) none) r
 
-pub then-B : Leaves start woken-second key-B woken-B
-then-B = goes-on step-5 first-B
+  enter : now start l who ≡ woken who → called who (events l) ≡ true → is-in-rack who rack-B ≡ true → Fair (turn who enters (prepared who) ∷ l)
+  unfolding is-wake sized claims-by hashed-by digest-A
+  enter n c e = went (enters-so who e) n c refl none none r
 
-pub entered-is : Leaves start entered key-B prepared-B
-entered-is = goes-on step-6 then-B
+  read : now start l who ≡ active who → called who (events l) ≡ true → Fair (turn who reads (active who) ∷ l)
+  unfolding is-wake sized claims-by hashed-by
+  read n c = went (reads-so who) n c refl none none r
 
-pub activated-is : Leaves start activated key-B active-B
-activated-is = goes-on step-7 entered-is
+  -- with the words of the third and the first keeper, and of the fifth and the fourth
+  activate : now start l who ≡ prepared who → called who (events l) ≡ true
+      → Signed start (key 3) (parting young) l → Signed start (key 1) (parting grown) l → Signed start (key 5) entering l → Signed start (key 4) entering l
+      → Fair (turn who activates (active who) ∷ l)
+  unfolding is-wake sized
+  activate n c three one five four =
+      went (activates-so who) n c refl
+      (subst (All (Honest keepers start (events l))) (sym (claimed who))
+      (and (honest 3 (behind (behind at-front)) r three)
+      (and (honest 3 at-front r one)
+      (and (honest 3 (behind (behind (behind (behind at-front)))) r five)
+      (and (honest 3 (behind (behind (behind at-front))) r four) none)))))
+      (subst (All Told) (sym (hashed-there who)) (and told-A (and told-B (and told-young (and told-grown none)))))
+      r
 
--- what they returned for signing
-signs-3 : statements-in makes-A receipt-A ≡ receipt-A ∷ []
-unfolding strings statements-in
-signs-3 = refl
+-- rack A
+woken-fair : Fair woken-A
+unfolding called same
+woken-fair = wake (key 3) (wake (key 2) (wake (key 1) begun refl refl) refl refl) refl refl
 
-signs-4 : statements-in leaves-A (leaving-A ++ block-A ++ replicate 3072 0) ≡ leaving-A ∷ []
-unfolding strings statements-in
-signs-4 = refl
+founded-fair : Fair founded-A
+unfolding called same
+founded-fair = found (key 3) (found (key 2) (found (key 1) woken-fair refl refl in-A-1) refl refl in-A-2) refl refl in-A-3
 
-signs-6 : statements-in enters-B entering-B ≡ entering-B ∷ []
-unfolding strings statements-in
-signs-6 = refl
+made-fair : Fair made-A
+unfolding called same
+made-fair = make (key 3) (make (key 2) (make (key 1) founded-fair refl refl) refl refl) refl refl
 
-signs-8 : statements-in reads-B reading-B ≡ reading-B ∷ []
-unfolding strings statements-in
-signs-8 = refl
+grown-fair : Fair grown-A
+unfolding called same
+grown-fair = append (key 2) (append (key 1) made-fair refl refl) refl refl
 
-receipt-returned : Returned start key-A receipt-A made
-receipt-returned = returns step-3 founded-is signs-3
+judged-fair : Fair judged-A
+unfolding same
+judged-fair =
+    judged (ap (λ (f : Finding). f .number) finds-A)
+    (subst (All (Honest keepers start (events grown-A))) (sym claimed-A)
+    (and (honest 3 (behind at-front) grown-fair (here (signs-receipt (key 2))))
+    (and (honest 3 at-front grown-fair (before (here (signs-receipt (key 1))))) none)))
+    told-A
+    grown-fair
 
-leaving-returned : Returned start key-A leaving-A entered
-leaving-returned = before-returned (before-returned (returns step-4 judged-is signs-4))
+left-fair : Fair left-A
+unfolding called same
+left-fair = leave (key 3) (leave (key 1) judged-fair grown-kept told-grown refl refl) young-kept told-young refl refl
 
-entering-returned : Returned start key-B entering-B entered
-entering-returned = returns step-6 then-B signs-6
+-- rack B
+woken-B-fair : Fair woken-B
+unfolding called same
+woken-B-fair = wake (key 5) (wake (key 4) left-fair refl refl) refl refl
 
-reading-returned : Returned start key-B reading-B seen
-reading-returned = returns step-8 activated-is signs-8
+entered-fair : Fair entered-B
+unfolding called same
+entered-fair = enter (key 5) (enter (key 4) woken-B-fair refl refl in-B-4) refl refl in-B-5
 
--- woken first and once, and arguments of their sizes
-order-1 : in-order start [] (At key-A Wake) ≡ true
-unfolding called is-wake
-order-1 = wakes-first step-1 first-A refl refl
+-- what rack B's bundle speaks of, as it was returned
+three : Signed start (key 3) (parting young) entered-B
+unfolding same
+three = before (before (before (before (here (signs-young (key 3))))))
 
-order-2 : in-order start woken-first (At key-A founds-A) ≡ true
-unfolding called same is-wake sized
-order-2 = acts-later start woken-first key-A founds-A refl refl refl
+one : Signed start (key 1) (parting grown) entered-B
+unfolding same
+one = before (before (before (before (before (here (signs-grown (key 1)))))))
 
-order-3 : in-order start founded (At key-A makes-A) ≡ true
-unfolding called same is-wake sized
-order-3 = acts-later start founded key-A makes-A refl refl refl
+five : Signed start (key 5) entering entered-B
+unfolding same
+five = here (signs-entering (key 5) in-B-5)
 
-order-4 : in-order start receipt-judged (At key-A leaves-A) ≡ true
-unfolding called same is-wake sized
-order-4 = acts-later start receipt-judged key-A leaves-A refl refl refl
+four : Signed start (key 4) entering entered-B
+unfolding same
+four = before (here (signs-entering (key 4) in-B-4))
 
-order-5 : in-order start left (At key-B Wake) ≡ true
-unfolding called same is-wake
-order-5 = wakes-first step-5 first-B refl refl
+active-fair : Fair active-B
+unfolding called same
+active-fair =
+    activate (key 5) (activate (key 4) entered-fair refl refl three one five four) refl refl (before three) (before one) (before five) (before four)
 
-order-6 : in-order start woken-second (At key-B enters-B) ≡ true
-unfolding called same is-wake sized digest-A
-order-6 = acts-later start woken-second key-B enters-B refl refl refl
+read-fair : Fair read-B
+unfolding called same
+read-fair = read (key 5) (read (key 4) active-fair refl refl) refl refl
 
-order-7 : in-order start entered (At key-B activates-B) ≡ true
-unfolding called same is-wake sized
-order-7 = acts-later start entered key-B activates-B refl refl refl
-
-order-8 : in-order start activated (At key-B reads-B) ≡ true
-unfolding called same is-wake sized
-order-8 = acts-later start activated key-B reads-B refl refl refl
-
-next : (h : List Event) (e : Event) → in-order start h e ≡ true → orderly start h ≡ true → orderly start (e ∷ h) ≡ true
-unfolding orderly
-next h e a b = rw (a, b)
-
-next-verdict : (h : List Event) (q : Question) (s t : List ℕ) → orderly start h ≡ true → orderly start (Judged q s t ∷ h) ≡ true
-unfolding orderly in-order
-next-verdict h q s t o = o
-
-pub order : orderly start history ≡ true
-unfolding orderly
-order =
-    next-verdict seen asks-B reading-B signers
-    (next activated (At key-B reads-B) order-8
-    (next entered (At key-B activates-B) order-7
-    (next woken-second (At key-B enters-B) order-6
-    (next left (At key-B Wake) order-5
-    (next receipt-judged (At key-A leaves-A) order-4
-    (next-verdict made asks-A receipt-A signers
-    (next founded (At key-A makes-A) order-3
-    (next woken-first (At key-A founds-A) order-2
-    (next [] (At key-A Wake) order-1 refl)))))))))
-
--- what marks claim
-claims-7 : claims-by prepared-B activates-B ≡ claim key-A 3 leaving-A ∷ claim key-B 3 entering-B ∷ []
-unfolding rules listed key-at old-claim new-claim old-statement claims-by
-claims-7 = refl
-
-honest-7 : All (Honest keepers start entered) (claim key-A 3 leaving-A ∷ claim key-B 3 entering-B ∷ [])
-honest-7 = and (honest 3 at-front leaving-returned) (and (honest 3 (behind at-front) entering-returned) none)
-
--- all that is claimed of a call, and of a verdict, is honest
-shown-by : {h : List Event} {key : List ℕ} {k k' : Keeper} {call : Call} {n : ℕ} {area : List ℕ} {l : List Claim}
-    → Goes key k call n k' area → Leaves start h key k → claims-by k call ≡ l → All (Honest keepers start h) l → Honest-chip keepers start h
-    → Honest-chip keepers start (At key call ∷ h)
-shown-by {h} {key} {call = call} {l = l} g there e a t =
-    and-then (λ c m. one-of (subst (λ (x : List Claim). c ∈ x) (shows g there ∙ e) m) a) t
-
-claimed-so : (h : List Event) (q : Question) (s : List ℕ) → judging q s signers ≡ finds → claims start h (Judged q s signers) ≡ listed 1 (signer-claim q s signers)
-unfolding claims
-claimed-so h q s e = ap (λ (f : Finding). cond (eqb (f .number) accepted) (listed 1 (signer-claim q s signers)) []) e
-
-one-signer : (q : Question) (s key : List ℕ) → key-at (q .rack) 0 ≡ key → listed 1 (signer-claim q s signers) ≡ claim key 3 s ∷ []
-unfolding listed signer-claim
-one-signer q s key p = ap (λ (k : List ℕ). claim k 3 s ∷ []) p
-
-judged-by : {h : List Event} (q : Question) (s : List ℕ) (key : List ℕ) → judging q s signers ≡ finds → key-at (q .rack) 0 ≡ key
-    → key ∈ keepers → Returned start key s h → Honest-chip keepers start h → Honest-chip keepers start (Judged q s signers ∷ h)
-judged-by {h} q s key e p i r t =
-    let a : All (Honest keepers start h) (claim key 3 s ∷ []) = and (honest 3 i r) none in
-    and-then (λ c m. one-of (subst (λ (x : List Claim). c ∈ x) (claimed-so h q s e ∙ one-signer q s key p) m) a) t
-
--- the keys at the first place of the racks
-place-A : key-at rack-A 0 ≡ key-A
-unfolding key-at rack-cut pieces
-place-A = refl
-
-place-B : key-at rack-B 0 ≡ key-B
-unfolding key-at rack-cut pieces
-place-B = refl
-
--- no call but Activate is shown marks
-none-1 : claims-by (start key-A) Wake ≡ []
-unfolding claims-by
-none-1 = refl
-
-none-2 : claims-by woken-A founds-A ≡ []
-unfolding claims-by
-none-2 = refl
-
-none-3 : claims-by founded-A makes-A ≡ []
-unfolding claims-by
-none-3 = refl
-
-none-4 : claims-by keeping-A leaves-A ≡ []
-unfolding claims-by
-none-4 = refl
-
-none-5 : claims-by (start key-B) Wake ≡ []
-unfolding claims-by
-none-5 = refl
-
-none-6 : claims-by woken-B enters-B ≡ []
-unfolding claims-by
-none-6 = refl
-
-none-8 : claims-by active-B reads-B ≡ []
-unfolding claims-by
-none-8 = refl
-
-pub chip : Honest-chip keepers start history
-chip =
-    judged-by asks-B reading-B key-B verdict-B place-B (behind at-front) reading-returned
-    (shown-by step-8 activated-is none-8 none
-    (shown-by step-7 entered-is claims-7 honest-7
-    (shown-by step-6 then-B none-6 none
-    (shown-by step-5 first-B none-5 none
-    (shown-by step-4 judged-is none-4 none
-    (judged-by asks-A receipt-A key-A verdict-A place-A at-front receipt-returned
-    (shown-by step-3 founded-is none-3 none
-    (shown-by step-2 then-A none-2 none
-    (shown-by step-1 first-A none-1 none at-first)))))))))
+pub good : Good keepers start Told told
+unfolding same
+good =
+    judged (ap (λ (f : Finding). f .number) finds-B)
+    (subst (All (Honest keepers start (events read-B))) (sym claimed-B)
+    (and (honest 3 (behind (behind (behind (behind at-front)))) read-fair (here (signs-reading (key 5))))
+    (and (honest 3 (behind (behind (behind at-front))) read-fair (before (here (signs-reading (key 4))))) none)))
+    told-B
+    read-fair

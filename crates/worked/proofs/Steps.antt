@@ -1,83 +1,223 @@
--- Each call of the worked history and its outcome, computed by the checker. Assumes nothing.
-use mathlib.Core.Path.{refl}
-use mathlib.Core.List.{[], _++_, flatten}
-use Prim.Native.Nat.{ℕ}
-use lib.ListN.{replicate}
-use Rattle.refusals.specs.Order.{first}
-use Rattle.octets.specs.Strings.{put, all-zero, same, before, pieces, rising}
-use Rattle.octets.specs.Layouts.{holds}
-use Rattle.rack.specs.Racks.{rack-written, rack-cut, rack-fits, is-among, rack-digest}
-use Rattle.rows.specs.Row.{label-of, tail-of, height-of, row-holds, row-fits}
-use Rattle.rows.specs.Table.{each, rises, stands, rows-fit}
-use Rattle.rows.specs.Search.{held, first-of, find}
-use Rattle.rows.specs.Digests.{roll-string, roll-digest, appended}
-use Rattle.marks.specs.Entries.{goes-up, entry-fits, entries-fit, mark-tests, marks-tests}
-use Rattle.roll.specs.Blocks.{blocks, head, places-of, checked, block, first-blocks, gathered}
-use Rattle.roll.specs.Roll.{said-count, filled, roll-layout}
-use Rattle.statement.specs.Contents.{receipt, body, statement-written}
+-- Each call of the worked history by its rule, Activate apart: accepted at the keeper that is there, with the keeper that it leaves and what it writes.
+-- The law of a call is over the key, since one rack's keepers differ in nothing else. Assumes nothing.
+use mathlib.Core.Path.{_≡_, refl, ap, _∙_}
+use mathlib.Core.Bool.{true, false, not, cond, _&&_}
+use mathlib.Core.List.{List, [], _∷_, _++_}
+use Prim.Native.Nat.{ℕ, _+_}
+use lib.ListN.{length, replicate}
+use lib.Dec.{eqb}
+use Rattle.octets.specs.Numbers.{number-of, bytes-of}
+use Rattle.octets.specs.Strings.{all-zero}
+use Rattle.rows.specs.declared.Found.{Found}
+use Rattle.rows.specs.Sizes.{table-bytes}
+use Rattle.rows.specs.Row.{tail-of, height-of}
+use Rattle.rows.specs.Search.{find}
+use Rattle.rows.specs.Digests.{appended}
+use Rattle.roll.specs.Roll.{roll-layout}
+use Rattle.statement.specs.declared.Kind.the-variants.{New, Append, Initialise}
+use Rattle.statement.specs.Contents.{receipt as receipt-written, body, statement-written}
+use Rattle.statement.specs.Cut.{no-digest, no-label}
 use Rattle.rules.specs.Record.{sound}
-use Rattle.rules.specs.Outcomes.{refused, given, again, unless, lending, readiness}
-use Rattle.rules.specs.Table.{smaller, widened}
+use Rattle.rules.specs.Outcomes.{given, lending, readiness}
+use Rattle.rules.specs.Table.{smaller, moved}
+use Rattle.rules.specs.Rows.{is-absent, row-number, receipt-of}
 use Rattle.rules.specs.Wake.{waking}
-use Rattle.rules.specs.Initialise.{is-in-rack, initialise-refusal, initialise-statement, entered, initialising}
+use Rattle.rules.specs.Initialise.{absent, is-in-rack, initialise-refusal, initialise-statement, founded as head-founded, preparing, entered, initialising}
 use Rattle.rules.specs.New.{new-refusal, making}
-use Rattle.rules.specs.Read.{reading}
+use Rattle.rules.specs.Append.{append-refusal, moved-on, append-statement, appending}
+use Rattle.rules.specs.Read.{read-kind, reading as reading-rule}
 use Rattle.rules.specs.Finalise.{finalise-statement, last-words, finalise-refusal, leaving, finalising}
-use Rattle.rules.specs.Bundle.{old-at, old-roll, new-at, new-entries, two-byte, list-at, digests, blocks-fit, added-fits, bundle-fits}
-use Rattle.rules.specs.Derivation.{some, no-more, grown, row-derived, roll-derived, kept-by-some, derived}
-use Rattle.rules.specs.Activate.{racks-differ, bundle-tests, handover-tests, activating}
-use Rattle.safety.specs.Calls.{Wake, outcome-of}
-use Rattle.worked.proofs.Strings.{key-A, key-B, empty-table, full-table, digest-A, digest-B, digest-none, digest-one, block-A, check}
-use Rattle.worked.proofs.Digests.{shown}
-use Rattle.worked.proofs.Goings.{Goes}
-use Rattle.worked.proofs.Story.{start, woken-A, founded-A, keeping-A, finalised-A, woken-B, prepared-B, active-B, founding-A, receipt-A}
-use Rattle.worked.proofs.Story.{leaving-A, entering-B, reading-B, founds-A, makes-A, leaves-A, enters-B, activates-B, reads-B}
+use Rattle.safety.specs.Calls.{Wake, lent, outcome-of, statements-in, for-signing}
+use Rattle.worked.proofs.Strings.{rack-A, rack-B, ledger, entry, nonce, new-tail, digest-A, digest-B, grown-row, young-digest, grown-digest}
+use Rattle.worked.proofs.Strings.{empty-table, young-table, grown-table, unchecked, grown-block}
+use Rattle.worked.proofs.Digests.{tail-grows}
+use Rattle.worked.proofs.Racks.{known-A, known-B}
+use Rattle.worked.proofs.Rolls.{Page, young, grown, Kept, young-kept, grown-kept, block-cut, block-holds, roll-digest-is}
+use Rattle.worked.proofs.Rolls.{empty-fits, none-found, row-added, row-moved}
+use Rattle.worked.proofs.Passing.{end, also, lets-all, takes-effect, front, front-of-two}
+use Rattle.worked.proofs.Goings.{Gives, signs-so}
+use Rattle.worked.proofs.Story.{head-of, start-table, start, woken, founded, keeping, finalised, prepared, active, receipt, parting, entering, reading}
+use Rattle.worked.proofs.Story.{founds, makes, appends, leaves, enters, reads}
 
--- opens, with its own name, the strings and the layouts that the rules go by
-unfoldable pub strings : ℕ
-unfolding shown empty-table full-table digest-A digest-B digest-none digest-one check
-    flatten first put all-zero same before pieces rising holds rack-written rack-cut rack-fits is-among rack-digest
-    label-of tail-of height-of row-holds row-fits each rises stands rows-fit held first-of find roll-string roll-digest appended
-    blocks head places-of checked block first-blocks gathered said-count filled roll-layout receipt body statement-written
-strings = 0
+-- Wake
+start-long : length start-table ≡ table-bytes
+unfolding start-table
+start-long = refl
 
--- and the rules
-unfoldable pub rules : ℕ
-unfolding strings outcome-of sound refused given again unless lending readiness smaller widened
-    waking is-in-rack initialise-refusal initialise-statement entered initialising new-refusal making reading
-    finalise-statement last-words finalise-refusal leaving finalising
-    goes-up entry-fits entries-fit mark-tests marks-tests old-at old-roll new-at new-entries two-byte list-at digests blocks-fit added-fits bundle-fits
-    some no-more grown row-derived roll-derived kept-by-some derived racks-differ bundle-tests handover-tests activating
-rules = 0
+wiped : replicate (length start-table) 0 ≡ empty-table
+unfolding empty-table
+wiped = ap (λ (n : ℕ). replicate n 0) start-long
 
-pub step-1 : Goes key-A (start key-A) Wake 0 woken-A []
-unfolding rules start
-step-1 = record { outcome = refl }
+pub wakes : (who : List ℕ) → Gives who (start who) Wake (woken who) [] []
+unfolding outcome-of waking
+wakes who =
+    record {
+      outcome-is =
+          takes-effect _ _ _ _ (lets-all (also (ap (λ (n : ℕ). not (eqb n table-bytes)) start-long) end))
+          ∙ (λ i. given [] (woken who .head) (wiped i) []);
+    }
 
-pub step-2 : Goes key-A woken-A founds-A 129 founded-A founding-A
-unfolding rules
-step-2 = record { outcome = refl }
+-- Initialise, when founding
+pub founds-so : (who : List ℕ) → is-in-rack who rack-A ≡ true
+    → Gives who (woken who) founds (founded who) (initialise-statement (founded who .head) empty-table) (replicate 129 0)
+unfolding outcome-of initialising initialise-refusal readiness lending sound entered
+founds-so who e =
+    record {
+      outcome-is =
+          takes-effect _ _ _ _
+          (lets-all
+          (also refl (also (ap not empty-fits) (also refl (also (ap not (known-A .rack-holds)) (also (ap not e) (also refl (also refl (also refl end)))))))))
+          ∙ (λ i.
+          let h = head-of 2 0 who (known-A .digest-is i) (known-A .digest-is i) no-digest no-digest in
+          given (initialise-statement h empty-table) h empty-table (replicate 129 0));
+    }
 
-pub step-3 : Goes key-A founded-A makes-A 121 keeping-A receipt-A
-unfolding rules
-step-3 = record { outcome = refl }
+-- New
+pub makes-so : (who : List ℕ)
+    → Gives who (founded who) makes (keeping who young) (statement-written (receipt-of (founded who .head) New ledger no-digest)) (replicate 121 0)
+unfolding outcome-of making new-refusal readiness lending sound all-zero smaller
+makes-so who =
+    record {
+      outcome-is =
+          takes-effect _ _ _ _
+          (lets-all
+          (also refl (also (ap not empty-fits) (also refl (also refl (also (ap (λ (f : Found). not (is-absent f)) none-found) (also refl end)))))))
+          ∙ (λ i. given (statement-written (receipt-of (founded who .head) New ledger no-digest)) (keeping who young .head) (row-added i) (replicate 121 0));
+    }
 
-pub step-4 : Goes key-A keeping-A leaves-A 641 finalised-A (leaving-A ++ block-A ++ replicate 3072 0)
-unfolding rules
-step-4 = record { outcome = refl }
+-- the row that a keeper's search finds
+module _ {p : Page} (k : Kept p) where
+  height-there : height-of (p .table) (row-number (find 1 (p .table) ledger)) ≡ p .height
+  height-there = ap (λ (f : Found). height-of (p .table) (row-number f)) (k .found) ∙ k .height-is
 
-pub step-5 : Goes key-B (start key-B) Wake 0 woken-B []
-unfolding rules start
-step-5 = record { outcome = refl }
+  tail-there : tail-of (p .table) (row-number (find 1 (p .table) ledger)) ≡ p .tail
+  tail-there = ap (λ (f : Found). tail-of (p .table) (row-number f)) (k .found) ∙ k .tail-is
 
-pub step-6 : Goes key-B woken-B enters-B 129 prepared-B entering-B
-unfolding rules
-step-6 = record { outcome = refl }
+-- Append
+next-there : appended (tail-of young-table (row-number (find 1 young-table ledger))) entry ≡ new-tail
+next-there = ap (λ (t : List ℕ). appended t entry) (tail-there young-kept) ∙ tail-grows
 
-pub step-7 : Goes key-B prepared-B activates-B 0 active-B []
-unfolding rules
-step-7 = record { outcome = refl }
+receipt-said : (who : List ℕ) → statement-written (receipt-of (keeping who young .head) (Append 1) ledger new-tail) ≡ receipt
+unfolding statement-written body receipt-written bytes-of receipt digest-A new-tail
+receipt-said who = refl
 
-pub step-8 : Goes key-B active-B reads-B 137 active-B reading-B
-unfolding rules
-step-8 = record { outcome = refl }
+pub appends-so : (who : List ℕ) → Gives who (keeping who young) appends (keeping who grown) receipt (replicate 121 0)
+unfolding outcome-of appending append-refusal readiness lending sound append-statement moved-on
+appends-so who =
+    record {
+      outcome-is =
+          takes-effect _ _ _ _
+          (lets-all
+          (also refl (also (ap not (young-kept .fits)) (also refl (also (ap is-absent (young-kept .found))
+          (also (ap (λ (n : ℕ). not (eqb 1 (n + 1))) (height-there young-kept)) (also (ap (λ (n : ℕ). eqb n 4294967295) (height-there young-kept)) end)))))))
+          ∙ (λ i.
+          given (statement-written (receipt-of (keeping who young .head) (Append (height-there young-kept i + 1)) ledger (next-there i)))
+          (keeping who young .head) (moved young-table (row-number (young-kept .found i)) (next-there i) (height-there young-kept i + 1)) (replicate 121 0))
+          ∙ (λ i. given (receipt-said who i) (keeping who young .head) (row-moved i) (replicate 121 0));
+    }
+
+-- Finalise
+pub parting-said : (p : Page) → finalise-statement digest-A digest-A digest-B (p .digest) ≡ parting p
+unfolding finalise-statement statement-written body parting digest-A digest-B
+parting-said p = refl
+
+pub leaves-so : {p : Page} (who : List ℕ) → Kept p → Gives who (keeping who p) leaves (finalised who p) (parting p ++ p .block) (replicate 3713 0)
+unfolding outcome-of finalising leaving finalise-refusal lending sound last-words
+leaves-so {p} who k =
+    record {
+      outcome-is =
+          takes-effect _ _ _ _ (lets-all (also refl (also (ap not (k .fits)) end)))
+          ∙ takes-effect _ _ _ _ (lets-all (also refl (also (ap not (known-B .rack-holds)) end)))
+          ∙ (λ i.
+          let h = head-of 3 1 who digest-A digest-A no-digest (known-B .digest-is i) in
+          given (last-words h (p .table)) h (p .table) (replicate 3713 0))
+          ∙ (λ i.
+          given (finalise-statement digest-A digest-A digest-B (roll-digest-is k i) ++ k .written-is i) (finalised who p .head) (p .table) (replicate 3713 0))
+          ∙ (λ i. given (parting-said p i ++ p .block) (finalised who p .head) (p .table) (replicate 3713 0));
+    }
+
+-- Initialise, with the roll of rack A
+block-present : absent grown-block ≡ false
+unfolding grown-block unchecked grown-row new-tail
+block-present = refl
+
+rack-present : absent rack-A ≡ false
+unfolding rack-A
+rack-present = refl
+
+pub entering-said : (who : List ℕ) → initialise-statement (prepared who .head) grown-table ≡ entering
+unfolding initialise-statement statement-written body entering digest-A digest-B
+entering-said who =
+    (λ i.
+    statement-written
+    (record {
+      kind = Initialise;
+      identity = digest-A;
+      own = digest-B;
+      label = no-label;
+      tail = no-digest;
+      other = digest-A;
+      roll = roll-digest-is grown-kept i;
+    }))
+    ∙ refl
+
+pub enters-so : (who : List ℕ) → is-in-rack who rack-B ≡ true → Gives who (woken who) enters (prepared who) entering (replicate 129 0)
+unfolding outcome-of initialising initialise-refusal readiness lending sound entered
+enters-so who e =
+    record {
+      outcome-is =
+          takes-effect _ _ _ _
+          (lets-all
+          (also refl (also (ap not empty-fits) (also refl (also (ap not (known-B .rack-holds)) (also (ap not e)
+          (also (λ i. cond (block-present i) (not (rack-present i)) (rack-present i))
+          (also (λ i. not (rack-present i) && not (known-A .rack-holds i))
+          (also (λ i. not (block-present i) && not (block-holds grown-kept i)) end)))))))))
+          ∙ (λ i.
+          let k = lent (woken who) (replicate 129 0) in
+          let r = roll-layout .cut grown-block in
+          cond (block-present i)
+          (entered k (head-founded (k .head) rack-B) (k .table))
+          (entered k (preparing (k .head) digest-A (r .count) rack-A rack-B) (r .rows)))
+          ∙ (λ i.
+          let h = head-of 1 (block-cut grown-kept i .count) who digest-A (known-B .digest-is i) (known-A .digest-is i) no-digest in
+          given (initialise-statement h (block-cut grown-kept i .rows)) h (block-cut grown-kept i .rows) (replicate 129 0))
+          ∙ (λ i. given (entering-said who i) (prepared who .head) grown-table (replicate 129 0));
+    }
+
+-- Read
+reading-said : (who : List ℕ) → statement-written (receipt-of (active who .head) (read-kind 1 nonce) ledger new-tail) ≡ reading
+unfolding statement-written body receipt-written number-of bytes-of reading digest-A digest-B new-tail
+reading-said who = refl
+
+pub reads-so : (who : List ℕ) → Gives who (active who) reads (active who) reading (replicate 137 0)
+unfolding outcome-of reading-rule readiness lending sound
+reads-so who =
+    record {
+      outcome-is =
+          takes-effect _ _ _ _ (lets-all (also refl (also (ap not (grown-kept .fits)) (also refl (also (ap is-absent (grown-kept .found)) end)))))
+          ∙ (λ i.
+          given (statement-written (receipt-of (active who .head) (read-kind (height-there grown-kept i) nonce) ledger (tail-there grown-kept i)))
+          (active who .head) grown-table (replicate 137 0))
+          ∙ (λ i. given (reading-said who i) (active who .head) grown-table (replicate 137 0));
+    }
+
+-- what is signed
+pub signs-receipt : (who : List ℕ) → for-signing who (keeping who young) appends ≡ receipt ∷ []
+unfolding statements-in receipt digest-A new-tail
+signs-receipt who = signs-so (appends-so who) ∙ ap (λ (s : List ℕ). s ∷ []) (front 121 (replicate 121 0) receipt refl)
+
+pub signs-young : (who : List ℕ) → for-signing who (keeping who young) leaves ≡ parting young ∷ []
+unfolding statements-in parting digest-A digest-B young-digest
+signs-young who = signs-so (leaves-so who young-kept) ∙ ap (λ (s : List ℕ). s ∷ []) (front-of-two 129 (replicate 3713 0) (parting young) (young .block) refl)
+
+pub signs-grown : (who : List ℕ) → for-signing who (keeping who grown) leaves ≡ parting grown ∷ []
+unfolding statements-in parting digest-A digest-B grown-digest
+signs-grown who = signs-so (leaves-so who grown-kept) ∙ ap (λ (s : List ℕ). s ∷ []) (front-of-two 129 (replicate 3713 0) (parting grown) (grown .block) refl)
+
+pub signs-entering : (who : List ℕ) → is-in-rack who rack-B ≡ true → for-signing who (woken who) enters ≡ entering ∷ []
+unfolding statements-in entering digest-A digest-B grown-digest
+signs-entering who e = signs-so (enters-so who e) ∙ ap (λ (s : List ℕ). s ∷ []) (front 129 (replicate 129 0) entering refl)
+
+pub signs-reading : (who : List ℕ) → for-signing who (active who) reads ≡ reading ∷ []
+unfolding statements-in reading digest-A digest-B new-tail
+signs-reading who = signs-so (reads-so who) ∙ ap (λ (s : List ℕ). s ∷ []) (front 137 (replicate 137 0) reading refl)
