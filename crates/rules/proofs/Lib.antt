@@ -5,4 +5,6 @@ pub mod FoundRows
 pub mod Initialised
 pub mod Noted
 pub mod Finalised
+pub mod Somes
+pub mod Derived
 pub mod Activated

@@ -24,7 +24,7 @@ use Rattle.rules.specs.New.{new-refusal, making}
 use Rattle.rules.specs.Read.{reading}
 use Rattle.rules.specs.Finalise.{finalise-statement, last-words, finalise-refusal, leaving, finalising}
 use Rattle.rules.specs.Bundle.{old-at, old-roll, new-at, new-entries, two-byte, list-at, digests, blocks-fit, added-fits, bundle-fits}
-use Rattle.rules.specs.Derivation.{some, no-more, grown, row-derived, roll-derived, kept-by-some, derived}
+use Rattle.rules.specs.Derivation.{some, no-more, grown, row-derived, roll-derived, had-elsewhere, kept-by-some, derived}
 use Rattle.rules.specs.Activate.{racks-differ, bundle-tests, handover-tests, activating}
 use Rattle.safety.specs.Calls.{Wake, outcome-of}
 use Rattle.worked.proofs.Strings.{key-A, key-B, empty-table, full-table, digest-A, digest-B, digest-none, digest-one, block-A, check}
@@ -47,7 +47,7 @@ unfolding strings outcome-of sound refused given again unless lending readiness 
     waking is-in-rack initialise-refusal initialise-statement entered initialising new-refusal making reading
     finalise-statement last-words finalise-refusal leaving finalising
     goes-up entry-fits entries-fit mark-tests marks-tests old-at old-roll new-at new-entries two-byte list-at digests blocks-fit added-fits bundle-fits
-    some no-more grown row-derived roll-derived kept-by-some derived racks-differ bundle-tests handover-tests activating
+    some no-more grown row-derived roll-derived had-elsewhere kept-by-some derived racks-differ bundle-tests handover-tests activating
 rules = 0
 
 pub step-1 : Goes key-A (start key-A) Wake 0 woken-A []
