@@ -60,7 +60,8 @@ fn is_higher_by(before: u64, n: u64, after: u64) -> bool
 // Whether the digests of a string lead from a height and a tail to row r of ours.
 fn is_grown(ours: &[u8], r: usize, height: u64, tail: [u8; TAIL], s: &[u8]) -> bool
     requires { ⌜ (r < most-rows) × (length (now ours) ≡ table-bytes) ⌝ }
-    ensures { λ b. ⌜ b ≡ (eqb (height + length (now (s .entry)) / digest-bytes) (height-of (now (ours .entry)) r) && same (grown tail (now (s .entry)) (length (now (s .entry)) / digest-bytes)) (tail-of (now (ours .entry)) r)) ⌝ }
+    ensures { λ b. ⌜ b ≡ (eqb (height + length (now (s .entry)) / digest-bytes) (height-of (now (ours .entry)) r)
+        && same (grown tail (now (s .entry)) (length (now (s .entry)) / digest-bytes)) (tail-of (now (ours .entry)) r)) ⌝ }
 {
     let n = (s.len() / DIGEST) as u64;
     if !is_higher_by(height, n, height_at(ours, r)) {

@@ -41,8 +41,10 @@ fn rows_derived(table: &[u8], rows: usize, old: &[u8], size: usize, s: &[u8], i:
 
 // Whether ours is derived from the roll of old entry i, and which rows that entry keeps.
 fn roll_derived(table: &[u8], rows: usize, s: &[u8], i: usize, kept: &mut [bool]) -> bool
-    requires { ⌜ Laid rows (now s) × (length (now table) ≡ table-bytes) × (i < old-count (now s)) × (roll-held (now s) i ≡ true) × (rows ≤ length (now kept)) ⌝ }
-    ensures { λ b. ⌜ (b ≡ rule.roll-derived (record { count = rows; rows = now (table .entry) }) (now (s .entry)) i) × Noted (record { count = rows; rows = now (table .entry) }) (rule.roll-of (now (s .entry)) i) (now (s .entry)) i (now (kept .entry)) (now (kept .exit)) ⌝ }
+    requires { ⌜ Laid rows (now s) × (length (now table) ≡ table-bytes) × (i < old-count (now s))
+        × (roll-held (now s) i ≡ true) × (rows ≤ length (now kept)) ⌝ }
+    ensures { λ b. ⌜ (b ≡ rule.roll-derived (record { count = rows; rows = now (table .entry) }) (now (s .entry)) i)
+        × Noted (record { count = rows; rows = now (table .entry) }) (rule.roll-of (now (s .entry)) i) (now (s .entry)) i (now (kept .entry)) (now (kept .exit)) ⌝ }
 {
     let mut old = [0u8; TABLE];
     let read = read_roll(old_roll(s, i), &mut old);

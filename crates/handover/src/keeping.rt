@@ -19,7 +19,8 @@ ghost use Rattle.handover.specs.Asked.{Laid, flag, Noted};
 // Whether row r is kept already, or an old roll has it and the list at a place has no digests.
 fn is_kept(kept: bool, table: &[u8], r: usize, old: &[u8], size: usize, s: &[u8], at: usize) -> bool
     requires { ⌜ (r < most-rows) × (length (now table) ≡ table-bytes) × (at + 2 ≤ length (now s)) ⌝ }
-    ensures { λ b. ⌜ b ≡ (kept || (not (is-absent (find size (now (old .entry)) (label-of (now (table .entry)) r))) && eqb (two-byte (now (s .entry)) at) 0)) ⌝ }
+    ensures { λ b. ⌜ b ≡ (kept
+        || (not (is-absent (find size (now (old .entry)) (label-of (now (table .entry)) r))) && eqb (two-byte (now (s .entry)) at) 0)) ⌝ }
 {
     if kept {
         return true;
@@ -41,7 +42,8 @@ pub fn note_kept(
     kept: &mut [bool],
 )
     requires { ⌜ Laid rows (now s) × (length (now table) ≡ table-bytes) × (i < old-count (now s)) × (rows ≤ length (now kept)) ⌝ }
-    ensures { λ r. ⌜ Noted (record { count = rows; rows = now (table .entry) }) (record { count = size; rows = now (old .entry) }) (now (s .entry)) i (now (kept .entry)) (now (kept .exit)) ⌝ }
+    ensures { λ r. ⌜ Noted (record { count = rows; rows = now (table .entry) }) (record { count = size; rows = now (old .entry) })
+        (now (s .entry)) i (now (kept .entry)) (now (kept .exit)) ⌝ }
 {
     let mut at = list_at(s, rows * i);
     let mut r = 0;

@@ -149,7 +149,9 @@ module _ (k : Lent) (previous own s : List ℕ) (o : Offered k previous own s) w
   unfolding activating first
   lacking-one rest = has-effect _ 0 k _ (decided ∙ lets-by _ not-derived [] (ap not (rest-derives (own-roll k) s rest)))
 
-  lacked-by-all : (r : ℕ) → r < k .head .count → ((i : ℕ) → i < old-count s → is-absent (row-in (roll-of s i) (own-roll k) r) ≡ true) → activating k previous own s ≡ refused 20 0 k
+  lacked-by-all :
+      (r : ℕ) → r < k .head .count → ((i : ℕ) → i < old-count s → is-absent (row-in (roll-of s i) (own-roll k) r) ≡ true)
+      → activating k previous own s ≡ refused 20 0 k
   unfolding activating
   lacked-by-all r l h = comes-to _ 20 0 k _ (decided ∙ refuses _ not-derived [] (ap not (lacked (own-roll k) s r l h))) refl
 

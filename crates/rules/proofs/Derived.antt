@@ -18,7 +18,8 @@ use Rattle.roll.specs.Roll.{Roll}
 use Rattle.statement.specs.Cut.{no-digest}
 use Rattle.rules.specs.Rows.{is-absent}
 use Rattle.rules.specs.Bundle.{old-count, added, digests, list-of}
-use Rattle.rules.specs.Derivation.{some, row-in, no-more, grown, counted-height, counted-tail, row-derived, roll-of, roll-derived, has-row, had-elsewhere, kept-by-some, derived}
+use Rattle.rules.specs.Derivation.{some, row-in, no-more, grown, counted-height, counted-tail, row-derived, roll-of, roll-derived}
+use Rattle.rules.specs.Derivation.{has-row, had-elsewhere, kept-by-some, derived}
 use Rattle.rules.proofs.Somes.{some-found, some-none, each-all}
 
 module _ (ours : Roll) (s : List ℕ) where
@@ -77,7 +78,9 @@ module _ (ours : Roll) (s : List ℕ) where
   kept-elsewhere kept i =
       each-all _ (ours .count) (λ r l. go r (each-of (kept-by-some ours s) (ours .count) r l kept) (has-row ours s r i) refl (elsewhere i r) refl)
     where
-      go : (r : ℕ) → kept-by-some ours s r ≡ true → (p : Bool) → has-row ours s r i ≡ p → (q : Bool) → elsewhere i r ≡ q → (has-row ours s r i || elsewhere i r) ≡ true
+      go :
+          (r : ℕ) → kept-by-some ours s r ≡ true → (p : Bool) → has-row ours s r i ≡ p → (q : Bool) → elsewhere i r ≡ q
+          → (has-row ours s r i || elsewhere i r) ≡ true
       go r k true e q f = rw e
       go r k false e true f = rw (e, f)
       go r k false e false f = let z : _≡_ {A = Bool} true false = sym k ∙ kept-by-none i r e f in cc
@@ -86,6 +89,8 @@ module _ (ours : Roll) (s : List ℕ) where
   unfolding derived
   rows-decide all = go (each (kept-by-some ours s) (ours .count)) refl
     where
-      go : (b : Bool) → each (kept-by-some ours s) (ours .count) ≡ b → (led && each (kept-by-some ours s) (ours .count)) ≡ each (kept-by-some ours s) (ours .count)
+      go :
+          (b : Bool) → each (kept-by-some ours s) (ours .count) ≡ b
+          → (led && each (kept-by-some ours s) (ours .count)) ≡ each (kept-by-some ours s) (ours .count)
       go true k = rw (all, each-all (had-elsewhere ours s) (old-count s) (λ i l. kept-elsewhere k i), k)
       go false k = and-false led k ∙ sym k

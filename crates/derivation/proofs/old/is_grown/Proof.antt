@@ -42,7 +42,8 @@ returns-2 c =
     let if1 = c .before .before .before .before .before in
     let a = if1 .before .before .before .before .before .args in
     let heights = if1 .before .is-higher-by .ensures ∙ ap (eqb (a .height + length (now (a .s)) / 32)) (if1 .before .before .height-at .ensures) in
-    rw (sym heights ∙ not-false _ (if1 .if1 .left)) (c .is-same .ensures ∙ ap₂ same (c .before .before .before .before .grown .ensures) (c .before .before .tail-at .ensures))
+    rw (sym heights ∙ not-false _ (if1 .if1 .left))
+    (c .is-same .ensures ∙ ap₂ same (c .before .before .before .before .grown .ensures) (c .before .before .tail-at .ensures))
 
 pub is-grown-spec : {M : Type 1} → statement M
 is-grown-spec =

@@ -54,10 +54,12 @@ returns c n =
     let ours = now (a .ours) in
     let k = length s / 32 in
     let e : find (a .size) (now (a .old)) (label-of ours (a .r)) ≡ At (found .found .given .0 .0) =
-    ap (find (a .size) (now (a .old))) (sym (found .before .before .before .label-at .ensures)) ∙ sym (found .before .before .find .ensures) ∙ found .found .given .1 in
+    ap (find (a .size) (now (a .old))) (sym (found .before .before .before .label-at .ensures))
+    ∙ sym (found .before .before .find .ensures) ∙ found .found .given .1 in
     rw e
     (c .is-grown .ensures
-    ∙ ap₂ (λ (h : ℕ) (t : List ℕ). eqb (h + k) (height-of ours (a .r)) && same (grown t s k) (tail-of ours (a .r))) (c .before .before .height-at .ensures) (c .before .tail-at .ensures))
+    ∙ ap₂ (λ (h : ℕ) (t : List ℕ). eqb (h + k) (height-of ours (a .r)) && same (grown t s k) (tail-of ours (a .r)))
+    (c .before .before .height-at .ensures) (c .before .tail-at .ensures))
 
 returns-2 : tie.Need-returns-2
 unfolding row-derived
@@ -65,7 +67,8 @@ returns-2 c n =
     let told = c .before in
     let a = told .before .before .before .before .before .before .before .args in
     let e : find (a .size) (now (a .old)) (label-of (now (a .ours)) (a .r)) ≡ Absent =
-    ap (find (a .size) (now (a .old))) (sym (told .before .before .before .label-at .ensures)) ∙ sym (told .before .before .find .ensures) ∙ told .enum-told .given .1 in
+    ap (find (a .size) (now (a .old))) (sym (told .before .before .before .label-at .ensures))
+    ∙ sym (told .before .before .find .ensures) ∙ told .enum-told .given .1 in
     rw e (c .is-grown2 .ensures)
 
 pub row-derived-spec : {M : Type 1} → statement M

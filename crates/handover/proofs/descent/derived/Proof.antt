@@ -61,7 +61,8 @@ returns c =
     let ours : Roll = record { count = a .rows; rows = now (a .table) } in
     let i = turn .before .loop .i in
     let h : i < old-count s = omega (arith, turn .before .before .old-count .ensures) in
-    sym (not-derived ours s (each-fails (roll-derived ours s) (old-count s) i h (sym (c .before .before .roll-derived .ensures .0) ∙ not-true _ (c .if1 .taken))))
+    sym (not-derived ours s
+    (each-fails (roll-derived ours s) (old-count s) i h (sym (c .before .before .roll-derived .ensures .0) ∙ not-true _ (c .if1 .taken))))
 
 add-i : tie.Need-add-i Inv-loop μ-loop
 add-i c = omega arith
@@ -80,7 +81,10 @@ loop-again c =
       omega arith,
       each-next (roll-derived ours s) (l .i) (l .inv .1) (sym (call .ensures .0) ∙ not-false _ (c .if1 .left)),
       call .kept .1 .1 .1 .1 .0 ∙ l .inv .2,
-      λ r h. call .ensures .1 r h ∙ ap (λ (p : Bool). p || keeps ours (roll-of s (l .i)) s (l .i) r) (l .inv .3 r h) ∙ sym (some-more (λ j. keeps ours (roll-of s j) s j r) (l .i)),
+      λ r h.
+          call .ensures .1 r h
+          ∙ ap (λ (p : Bool). p || keeps ours (roll-of s (l .i)) s (l .i) r) (l .inv .3 r h)
+          ∙ sym (some-more (λ j. keeps ours (roll-of s j) s j r) (l .i)),
     )
 
 slice-aggregate-all-kept : tie.Need-slice-aggregate-all-kept Inv-loop μ-loop

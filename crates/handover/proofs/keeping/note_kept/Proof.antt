@@ -19,7 +19,9 @@ use Rattle.handover.proofs.keeping.note_kept.Tie as tie
 
 abbrev Inv-loop : tie.InvT-loop
 Inv-loop table rows old size s i kept₀ at₀ r₀ kept at r =
-    (r ≤ rows) × (at ≡ list-at s (list-of rows i r)) × Noted-to (keeps (record { count = rows; rows = table }) (record { count = size; rows = old }) s i) kept₀ kept r
+    (r ≤ rows)
+    × (at ≡ list-at s (list-of rows i r))
+    × Noted-to (keeps (record { count = rows; rows = table }) (record { count = size; rows = old }) s i) kept₀ kept r
 
 abbrev μ-loop : tie.MeasureT-loop
 μ-loop table rows old size s i kept₀ at₀ r₀ kept at r = rows - r
