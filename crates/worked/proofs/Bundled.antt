@@ -30,15 +30,15 @@ use Rattle.rules.specs.Activate.{racks-differ, bundle-tests, handover-tests, ac
 use Rattle.rules.specs.Check.{old-statement}
 use Rattle.safety.specs.Calls.{lent, outcome-of}
 use Rattle.safety.specs.Histories.{listed}
-use Rattle.safety.specs.Chip.{Claim, old-claim, new-claim, claims-by}
+use Rattle.safety.specs.Chip.{old-claim, new-claim, claims-by}
 use Rattle.safety.specs.Hashed.{old-string, hashed-by}
 use Rattle.worked.proofs.Strings.{key, rack-A, rack-B, entry, new-tail, digest-A, digest-B, young-row, grown-row, grown-table}
 use Rattle.worked.proofs.Strings.{unchecked, young-block, grown-block}
 use Rattle.worked.proofs.Digests.{tail-grows}
-use Rattle.worked.proofs.Racks.{known-A, known-B, at-A-0, at-A-2, at-B-0, at-B-1}
+use Rattle.worked.proofs.Racks.{known-A, known-B}
 use Rattle.worked.proofs.Rolls.{Page, young, grown, roll-on, Kept, young-kept, grown-kept, block-cut, block-holds, roll-digest-is}
 use Rattle.worked.proofs.Passing.{Lets-by, end, also, lets-all, lets-both, takes-effect}
-use Rattle.worked.proofs.Goings.{Gives}
+use Rattle.worked.proofs.Goings.{Gives, claim}
 use Rattle.worked.proofs.Story.{prepared, active, parting, entering, bundle, activates}
 use Rattle.worked.proofs.Steps.{parting-said, entering-said}
 
@@ -223,25 +223,22 @@ activates-so who =
           (bundle-passes who) (handover-passes who)));
     }
 
--- what its marks claim, both bits of each
-abbrev pub claim : List ℕ → List ℕ → Claim
-claim who s = record { key = who; marks = 3; statement = s }
-
+-- what its marks claim
 first-claims : (who : List ℕ) → old-claim (prepared who) rack-A bundle 0 ≡ claim (key 1) (parting grown)
 unfolding old-claim parts
-first-claims who = λ i. claim (at-A-0 i) (old-speaks grown-kept 0 first-roll who i)
+first-claims who = λ i. claim (known-A .a-at i) (old-speaks grown-kept 0 first-roll who i)
 
 third-claims : (who : List ℕ) → old-claim (prepared who) rack-A bundle 1 ≡ claim (key 3) (parting young)
 unfolding old-claim parts
-third-claims who = λ i. claim (at-A-2 i) (old-speaks young-kept 1 third-roll who i)
+third-claims who = λ i. claim (known-A .c-at i) (old-speaks young-kept 1 third-roll who i)
 
 fourth-claims : (who : List ℕ) → new-claim (prepared who) rack-B bundle 0 ≡ claim (key 4) entering
 unfolding new-claim parts
-fourth-claims who = λ i. claim (at-B-0 i) (entering-said who i)
+fourth-claims who = λ i. claim (known-B .a-at i) (entering-said who i)
 
 fifth-claims : (who : List ℕ) → new-claim (prepared who) rack-B bundle 1 ≡ claim (key 5) entering
 unfolding new-claim parts
-fifth-claims who = λ i. claim (at-B-1 i) (entering-said who i)
+fifth-claims who = λ i. claim (known-B .b-at i) (entering-said who i)
 
 pub claimed : (who : List ℕ)
     → claims-by (prepared who) activates ≡ claim (key 3) (parting young) ∷ claim (key 1) (parting grown) ∷ claim (key 5) entering ∷ claim (key 4) entering ∷ []

@@ -146,6 +146,10 @@ module _ {keepers : List (List ℕ)} {start : List ℕ → Keeper} {Told : List 
       all-of {P = Told} (subst (λ (y : List (List ℕ)). s ∈ y) (ap (λ (n : ℕ). cond (eqb n accepted) (rack-string (q .rack) ∷ []) []) e) m) (and t none)
   told-so (judged e h t r) (before-hashed m) = told-so r m
 
+-- both marks of a key on a statement
+abbrev pub claim : List ℕ → List ℕ → Claim
+claim who s = record { key = who; marks = 3; statement = s }
+
 -- a statement was returned at a key
 pub data Signed (start : List ℕ → Keeper) (who s : List ℕ) : List Beat → Type 0 where
   here : {call : Call} {left : Keeper} {l : List Beat} → for-signing who (now start l who) call ≡ s ∷ [] → Signed start who s (turn who call left ∷ l)
@@ -159,6 +163,5 @@ module _ {keepers : List (List ℕ)} {start : List ℕ → Keeper} {Told : List 
   returned (judged e h t r) (before m) = before-returned (returned r m)
 
   -- so marks on it are honest
-  pub honest : {l : List Beat} (marks : ℕ) → who ∈ keepers → Good keepers start Told l → Signed start who s l
-      → Honest keepers start (events l) (record { key = who; marks = marks; statement = s })
-  honest marks m r e = record { attests = λ a. m; validates = λ v k. returned r e }
+  pub honest : {l : List Beat} → who ∈ keepers → Good keepers start Told l → Signed start who s l → Honest keepers start (events l) (claim who s)
+  honest m r e = record { attests = λ a. m; validates = λ v k. returned r e }

@@ -12,16 +12,16 @@ use Rattle.safety.specs.Histories.{called, at-front, behind}
 use Rattle.safety.specs.Chip.{Honest, claims-by}
 use Rattle.safety.specs.Hashed.{hashed-by}
 use Rattle.worked.proofs.Strings.{key, rack-A, rack-B, digest-A}
-use Rattle.worked.proofs.Racks.{in-A-1, in-A-2, in-A-3, in-B-4, in-B-5}
+use Rattle.worked.proofs.Racks.{known-A, known-B}
 use Rattle.worked.proofs.Rolls.{Page, young, grown, Kept, young-kept, grown-kept}
 use Rattle.worked.proofs.Goings.{Beat, turn, events, now, All, none, and, Good, begun, went, judged, Signed, here, before, honest}
-use Rattle.worked.proofs.Story.{keepers, start, woken, founded, keeping, finalised, prepared, active, parting, entering}
-use Rattle.worked.proofs.Story.{founds, makes, appends, leaves, enters, activates, reads}
+use Rattle.worked.proofs.Story.{keepers, start, woken, founded, keeping, finalised, prepared, active, receipt, parting, entering, reading}
+use Rattle.worked.proofs.Story.{founds, makes, appends, leaves, enters, activates, reads, asks-A, asks-B}
 use Rattle.worked.proofs.Story.{woken-A, founded-A, made-A, grown-A, judged-A, left-A, woken-B, entered-B, active-B, read-B, told}
 use Rattle.worked.proofs.Steps.{wakes, founds-so, makes-so, appends-so, leaves-so, enters-so, reads-so}
 use Rattle.worked.proofs.Steps.{signs-receipt, signs-young, signs-grown, signs-entering, signs-reading}
 use Rattle.worked.proofs.Bundled.{activates-so, claimed, hashed-there}
-use Rattle.worked.proofs.Verdicts.{judged-A as finds-A, judged-B as finds-B, claimed-A, claimed-B}
+use Rattle.worked.proofs.Verdicts.{judged-A as finds-A, judged-B as finds-B, claimed-by-two}
 use Rattle.worked.proofs.Apart.{Told, told-A, told-B, told-young, told-grown}
 
 abbrev Fair : List Beat → Type 0
@@ -66,10 +66,10 @@ module _ {l : List Beat} (who : List ℕ) (r : Fair l) where
   activate n c three one five four =
       went (activates-so who) n c refl
       (subst (All (Honest keepers start (events l))) (sym (claimed who))
-      (and (honest 3 (behind (behind at-front)) r three)
-      (and (honest 3 at-front r one)
-      (and (honest 3 (behind (behind (behind (behind at-front)))) r five)
-      (and (honest 3 (behind (behind (behind at-front))) r four) none)))))
+      (and (honest (behind (behind at-front)) r three)
+      (and (honest at-front r one)
+      (and (honest (behind (behind (behind (behind at-front)))) r five)
+      (and (honest (behind (behind (behind at-front))) r four) none)))))
       (subst (All Told) (sym (hashed-there who)) (and told-A (and told-B (and told-young (and told-grown none)))))
       r
 
@@ -80,7 +80,7 @@ woken-fair = wake (key 3) (wake (key 2) (wake (key 1) begun refl refl) refl refl
 
 founded-fair : Fair founded-A
 unfolding called same
-founded-fair = found (key 3) (found (key 2) (found (key 1) woken-fair refl refl in-A-1) refl refl in-A-2) refl refl in-A-3
+founded-fair = found (key 3) (found (key 2) (found (key 1) woken-fair refl refl (known-A .a-in)) refl refl (known-A .b-in)) refl refl (known-A .c-in)
 
 made-fair : Fair made-A
 unfolding called same
@@ -94,9 +94,9 @@ judged-fair : Fair judged-A
 unfolding same
 judged-fair =
     judged (ap (λ (f : Finding). f .number) finds-A)
-    (subst (All (Honest keepers start (events grown-A))) (sym claimed-A)
-    (and (honest 3 (behind at-front) grown-fair (here (signs-receipt (key 2))))
-    (and (honest 3 at-front grown-fair (before (here (signs-receipt (key 1))))) none)))
+    (subst (All (Honest keepers start (events grown-A))) (sym (claimed-by-two asks-A receipt known-A))
+    (and (honest (behind at-front) grown-fair (here (signs-receipt (key 2))))
+    (and (honest at-front grown-fair (before (here (signs-receipt (key 1))))) none)))
     told-A
     grown-fair
 
@@ -111,7 +111,7 @@ woken-B-fair = wake (key 5) (wake (key 4) left-fair refl refl) refl refl
 
 entered-fair : Fair entered-B
 unfolding called same
-entered-fair = enter (key 5) (enter (key 4) woken-B-fair refl refl in-B-4) refl refl in-B-5
+entered-fair = enter (key 5) (enter (key 4) woken-B-fair refl refl (known-B .a-in)) refl refl (known-B .b-in)
 
 -- what rack B's bundle speaks of, as it was returned
 three : Signed start (key 3) (parting young) entered-B
@@ -124,11 +124,11 @@ one = before (before (before (before (before (here (signs-grown (key 1)))))))
 
 five : Signed start (key 5) entering entered-B
 unfolding same
-five = here (signs-entering (key 5) in-B-5)
+five = here (signs-entering (key 5) (known-B .b-in))
 
 four : Signed start (key 4) entering entered-B
 unfolding same
-four = before (here (signs-entering (key 4) in-B-4))
+four = before (here (signs-entering (key 4) (known-B .a-in)))
 
 active-fair : Fair active-B
 unfolding called same
@@ -143,8 +143,8 @@ pub good : Good keepers start Told told
 unfolding same
 good =
     judged (ap (λ (f : Finding). f .number) finds-B)
-    (subst (All (Honest keepers start (events read-B))) (sym claimed-B)
-    (and (honest 3 (behind (behind (behind (behind at-front)))) read-fair (here (signs-reading (key 5))))
-    (and (honest 3 (behind (behind (behind at-front))) read-fair (before (here (signs-reading (key 4))))) none)))
+    (subst (All (Honest keepers start (events read-B))) (sym (claimed-by-two asks-B reading known-B))
+    (and (honest (behind (behind (behind (behind at-front)))) read-fair (here (signs-reading (key 5))))
+    (and (honest (behind (behind (behind at-front))) read-fair (before (here (signs-reading (key 4))))) none)))
     told-B
     read-fair

@@ -12,63 +12,49 @@ use Rattle.safety.specs.Chip.{key-at}
 use Rattle.worked.proofs.Strings.{key, rack-A, rack-B, digest-A, digest-B}
 use Rattle.worked.proofs.Digests.{digest-of-A, digest-of-B}
 
--- a rack of three, with its digest
-pub record Known (rack digest : List ℕ) : Type 0 where
+-- a rack of three keys, with its digest
+pub record Known (rack digest a b c : List ℕ) : Type 0 where
   pub rack-holds : holds rack-layout rack ≡ true
   pub size-is : rack-size rack ≡ 3
   pub digest-is : rack-digest rack ≡ digest
+  pub a-in : is-in-rack a rack ≡ true
+  pub b-in : is-in-rack b rack ≡ true
+  pub c-in : is-in-rack c rack ≡ true
+  pub a-at : key-at rack 0 ≡ a
+  pub b-at : key-at rack 1 ≡ b
+  pub c-at : key-at rack 2 ≡ c
 
 -- opens, with its own name, both racks and all that a rack is taken apart by
 unfoldable taken-apart : ℕ
 unfolding rack-A rack-B flatten all-zero same before pieces rising holds rack-written rack-cut rack-fits is-among is-in-rack key-at
 taken-apart = 0
 
-pub known-A : Known rack-A digest-A
+pub known-A : Known rack-A digest-A (key 1) (key 2) (key 3)
 unfolding taken-apart
-known-A = record { rack-holds = refl; size-is = refl; digest-is = digest-of-A }
+known-A =
+    record {
+      rack-holds = refl;
+      size-is = refl;
+      digest-is = digest-of-A;
+      a-in = refl;
+      b-in = refl;
+      c-in = refl;
+      a-at = refl;
+      b-at = refl;
+      c-at = refl;
+    }
 
-pub known-B : Known rack-B digest-B
+pub known-B : Known rack-B digest-B (key 4) (key 5) (key 6)
 unfolding taken-apart
-known-B = record { rack-holds = refl; size-is = refl; digest-is = digest-of-B }
-
--- the keys of keepers that enter
-pub in-A-1 : is-in-rack (key 1) rack-A ≡ true
-unfolding taken-apart
-in-A-1 = refl
-
-pub in-A-2 : is-in-rack (key 2) rack-A ≡ true
-unfolding taken-apart
-in-A-2 = refl
-
-pub in-A-3 : is-in-rack (key 3) rack-A ≡ true
-unfolding taken-apart
-in-A-3 = refl
-
-pub in-B-4 : is-in-rack (key 4) rack-B ≡ true
-unfolding taken-apart
-in-B-4 = refl
-
-pub in-B-5 : is-in-rack (key 5) rack-B ≡ true
-unfolding taken-apart
-in-B-5 = refl
-
--- the keys at the places that marks are given for
-pub at-A-0 : key-at rack-A 0 ≡ key 1
-unfolding taken-apart
-at-A-0 = refl
-
-pub at-A-1 : key-at rack-A 1 ≡ key 2
-unfolding taken-apart
-at-A-1 = refl
-
-pub at-A-2 : key-at rack-A 2 ≡ key 3
-unfolding taken-apart
-at-A-2 = refl
-
-pub at-B-0 : key-at rack-B 0 ≡ key 4
-unfolding taken-apart
-at-B-0 = refl
-
-pub at-B-1 : key-at rack-B 1 ≡ key 5
-unfolding taken-apart
-at-B-1 = refl
+known-B =
+    record {
+      rack-holds = refl;
+      size-is = refl;
+      digest-is = digest-of-B;
+      a-in = refl;
+      b-in = refl;
+      c-in = refl;
+      a-at = refl;
+      b-at = refl;
+      c-at = refl;
+    }

@@ -19,10 +19,10 @@ use Rattle.desk.specs.declared.Finding.{Finding}
 use Rattle.desk.specs.Verdict.{Question, signers-fit, is-asked-for, has-other-nonce, verdict-refusal, nothing-shown, shown, judging}
 use Rattle.safety.specs.Histories.{listed}
 use Rattle.safety.specs.Chip.{signer-claim}
-use Rattle.worked.proofs.Strings.{key, new-tail, digest-A, digest-B}
-use Rattle.worked.proofs.Racks.{Known, known-A, known-B, at-A-0, at-A-1, at-B-0, at-B-1}
+use Rattle.worked.proofs.Strings.{new-tail, digest-A, digest-B}
+use Rattle.worked.proofs.Racks.{Known, known-A, known-B}
 use Rattle.worked.proofs.Passing.{end, also, lets-all}
-use Rattle.worked.proofs.Bundled.{claim}
+use Rattle.worked.proofs.Goings.{claim}
 use Rattle.worked.proofs.Story.{receipt, reading, asks-A, asks-B, signers}
 
 abbrev pub finds : Finding
@@ -45,33 +45,29 @@ asked-of q s digest =
     && same (cut-statement s .label) (q .label)
 
 -- a verdict by two signers of a known rack
-module _ (q : Question) (s digest : List ℕ) (k : Known (q .rack) digest) where
+module _ (q : Question) (s : List ℕ) {digest a b c : List ℕ} (k : Known (q .rack) digest a b c) where
   passes : asked-of q s digest ≡ true → has-other-nonce q s ≡ false → verdict-refusal q s signers ≡ accepted
   unfolding verdict-refusal is-asked-for asked-of signers-fit goes-up entry-fits entries-fit mark-tests marks-tests
-  passes a n =
+  passes e n =
       lets-all
       (also (ap not (k .rack-holds))
       (also (λ i. not (signers-fit (k .size-is i) signers))
-      (also (ap not (ap (asked-of q s) (k .digest-is) ∙ a))
+      (also (ap not (ap (asked-of q s) (k .digest-is) ∙ e))
       (also n (also (λ i. ltb 2 (majority (k .size-is i))) (also refl (also refl (also refl (also refl end)))))))))
 
   judged-so : asked-of q s digest ≡ true → has-other-nonce q s ≡ false → shown s ≡ finds → judging q s signers ≡ finds
   unfolding judging
-  judged-so a n f = ap (λ (x : ℕ). cond (eqb x accepted) (shown s) (nothing-shown x)) (passes a n) ∙ f
+  judged-so e n f = ap (λ (x : ℕ). cond (eqb x accepted) (shown s) (nothing-shown x)) (passes e n) ∙ f
+
+  -- what the signers' marks claim
+  pub claimed-by-two : listed 2 (signer-claim q s signers) ≡ claim b s ∷ claim a s ∷ []
+  unfolding listed signer-claim
+  claimed-by-two = λ i. claim (k .b-at i) s ∷ claim (k .a-at i) s ∷ []
 
 pub judged-A : judging asks-A receipt signers ≡ finds
 unfolding statements asked-of has-other-nonce shown
-judged-A = judged-so asks-A receipt digest-A known-A refl refl refl
+judged-A = judged-so asks-A receipt known-A refl refl refl
 
 pub judged-B : judging asks-B reading signers ≡ finds
 unfolding statements asked-of has-other-nonce shown
-judged-B = judged-so asks-B reading digest-B known-B refl refl refl
-
--- what the signers' marks claim
-pub claimed-A : listed 2 (signer-claim asks-A receipt signers) ≡ claim (key 2) receipt ∷ claim (key 1) receipt ∷ []
-unfolding listed signer-claim
-claimed-A = λ i. claim (at-A-1 i) receipt ∷ claim (at-A-0 i) receipt ∷ []
-
-pub claimed-B : listed 2 (signer-claim asks-B reading signers) ≡ claim (key 5) reading ∷ claim (key 4) reading ∷ []
-unfolding listed signer-claim
-claimed-B = λ i. claim (at-B-1 i) reading ∷ claim (at-B-0 i) reading ∷ []
+judged-B = judged-so asks-B reading known-B refl refl refl
