@@ -149,17 +149,17 @@ is-not : (b : Bool) → not b ≡ true → b ≡ false
 is-not false e = refl
 is-not true e = sym e
 
+either : {P : Type 0} (w a b : Bool) → cond w a b ≡ true → (w ≡ true → a ≡ true → P) → (w ≡ false → b ≡ true → P) → P
+either true a b e p q = p refl e
+either false a b e p q = q refl e
+
 module _ (start : List ℕ → Keeper) where
   pub comes : (h : List Event) (key : List ℕ) (call : Call) → in-order start h (At key call) ≡ true → Comes start h key call
   unfolding in-order
-  comes h key call e = go (is-wake call) refl e
-    where
-      go : (b : Bool) → is-wake call ≡ b → cond b (not (called key h) && accepts key (keeper-after start h key) call) (called key h && sized call) ≡ true
-          → Comes start h key call
-      go true w e =
-          first w (is-not (called key h) (and-left (not (called key h)) (accepts key (keeper-after start h key) call) e))
-          (and-right (not (called key h)) (accepts key (keeper-after start h key) call) e)
-      go false w e = later w (and-left (called key h) (sized call) e) (and-right (called key h) (sized call) e)
+  comes h key call e =
+      either (is-wake call) _ _ e
+      (λ w t. first w (is-not (called key h) (and-left _ _ t)) (and-right (not (called key h)) _ t))
+      (λ w t. later w (and-left _ _ t) (and-right (called key h) _ t))
 
   -- so a keeper that was called has its sizes
   whole-then :

@@ -66,7 +66,7 @@ module _ (Hashes : List ℕ → Type 0) (Said : List ℕ → Statement → Type 
     unfolding claims-by old-claim
     olds e i h =
         vows e (old-claim k previous s i)
-        (in-left (listed (new-count s) (new-claim k own s)) (in-listed (old-claim k previous s) (old-count s) i h))
+        (in-left _ (in-listed (old-claim k previous s) (old-count s) i h))
 
     news :
         accepts key k this ≡ true → (i : ℕ) → i < new-count s → attested (pair-marks (new-entries s) i) ≡ true → valid (pair-marks (new-entries s) i) ≡ true
