@@ -10,6 +10,7 @@ use crate::people::rack_of_three;
 use crate::say;
 use rows::TABLE;
 use rules::Answer;
+use rules::Head;
 use rules::Told;
 use statement::HANDOVER_SIZE;
 ghost use Prim.Native.Nat.{_≤_};
@@ -119,12 +120,17 @@ fn both(first: &[u8; BLOCK], second: &[u8; BLOCK]) -> [u8; BOTH] {
     bundle
 }
 
-// The keeper of key 2 is to take over a roll from a rack, and is shown a bundle.
+// The keeper of key 2 is shown a bundle.
+fn shown(head: Head, table: &[u8; TABLE], previous: &[u8], bundle: &[u8]) -> Answer {
+    let told = handover::activate(head, table, previous, &rack_of_one(2), bundle);
+    told.answer
+}
+
+// It is to take over a roll from a rack first.
 fn activated(identity: [u8; 32], roll: &[u8; BLOCK], previous: &[u8], bundle: &[u8]) -> Answer {
     let mut table = [0u8; TABLE];
-    let prepared = prepared(&mut table, identity, roll, previous);
-    let told = handover::activate(prepared.head, &table, previous, &rack_of_one(2), bundle);
-    told.answer
+    let told = prepared(&mut table, identity, roll, previous);
+    shown(told.head, &table, previous, bundle)
 }
 
 // A roll of one row is to come from a roll of none, beside one that has the row and alone.
