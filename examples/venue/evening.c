@@ -62,9 +62,12 @@ static void found_rack(void) {
     memcpy(console.question.label, "tour, cue edits", MAHQURITH_LABEL);
     console.list = a.list;
     q = desk_ask(&console, MAHQURITH_NEW);
+    a.boxes[3].silent = true;
     pile p = messenger_carry(&a, &q);
+    a.boxes[3].silent = false;
     must(desk_judge(&console, &a.list, &p).number == MAHQURITH_ACCEPTED, "the desk accepts a new ledger");
-    puts("The desk notes the rack's identity, for the whole tour, and has a ledger made for the cue edits.");
+    puts("The desk notes the rack's identity, for the whole tour, and has a ledger made for the cue edits.\n"
+         "Box A4 is still in its case and misses that: it has no such ledger, and signs no cue of it.");
 }
 
 static void before_the_interval(void) {
@@ -99,7 +102,8 @@ static void interval(void) {
     mahqurith_finding found = desk_judge(&console, &b.list, &first);
     must(desk_takes(&console, &b.list, &found), "the desk takes the new rack");
     puts("Boxes B1 to B5 take the newest list over and sign that they did, but do not use it yet.\n"
-         "The messenger brings each of them a bundle: the signatures of both racks, and the cue that box A5 missed.\n"
+         "The messenger brings each of them a bundle: the signatures of both racks, the cue that box A5 missed,\n"
+         "and all four cues for box A4, whose list lacks the ledger. Other lists have it, so that it stops nothing.\n"
          "Boxes B1 to B4 have their own chips check it and find all of it good: they are active.\n"
          "Box B5 has a loose cable and waits for its bundle.");
 }
@@ -119,7 +123,7 @@ static void asked_of_rack_a(void) {
 }
 
 static void brought_to_the_desk(void) {
-    puts("3. The list of the show before. The messenger brings the matinee's reading, signed by five boxes of rack A.");
+    puts("3. The list of the show before. The messenger brings the matinee's reading, signed by four boxes of rack A.");
     pile p = ask(&b);
     refused(desk_judge(&console, &b.list, &matinee).number, MAHQURITH_STATEMENT_NOT_ASKED, "it speaks of rack A, and the desk asks rack B");
     puts("   The messenger says that rack A is the one to ask.");

@@ -1,6 +1,6 @@
-//! This file holds the peer with one rule deliberately broken, by which the tests show that each of 01's slips is caught.
+//! This file holds the peer with one rule deliberately broken, by which the tests show that each slip is caught.
 
-use crate::bundle::{self, leads_to, Bundle};
+use crate::bundle::{self, leads_to, Bundle, Held};
 use crate::call::{Call, Lent, Reply};
 use crate::party::{perform_by, Party};
 use crate::record::{ACTIVE, FINALISED};
@@ -8,7 +8,7 @@ use crate::roll::Roll;
 use crate::row::Row;
 use crate::rules::{Of01, Rules};
 
-/// "Slips that look right"
+/// 01's "Slips that look right", and those of 02's requests.
 #[derive(Clone, Copy, PartialEq, Eq, Debug)]
 pub enum Slip {
     /// "Majority as n/2 rounded up: two of four pass, and two halves of a rack disagree."
@@ -23,12 +23,44 @@ pub enum Slip {
     NonceIgnored,
     /// "Activating on the keeper's own roll alone"
     OwnRollAlone,
+    /// A ledger that an old roll has and the keeper's lacks, taken as a missing row too.
+    LedgerLost,
+    /// A missing row waved through: nothing is asked of it where it is missing, nor that another old roll has it.
+    MissingUnasked,
+    /// A roll that lacks the row taken as one that adds none.
+    LackingAddsNone,
+    /// The digests of a missing row counted, but not looked at.
+    MissingUnread,
+    /// A missing row refused, as before M-101.
+    MissingRefused,
 }
 
-pub const SLIPS: [Slip; 6] =
-    [Slip::MajorityUp, Slip::SignerTwice, Slip::FirstOldOnly, Slip::SecondHeir, Slip::NonceIgnored, Slip::OwnRollAlone];
+pub const SLIPS: [Slip; 11] = [
+    Slip::MajorityUp,
+    Slip::SignerTwice,
+    Slip::FirstOldOnly,
+    Slip::SecondHeir,
+    Slip::NonceIgnored,
+    Slip::OwnRollAlone,
+    Slip::LedgerLost,
+    Slip::MissingUnasked,
+    Slip::LackingAddsNone,
+    Slip::MissingUnread,
+    Slip::MissingRefused,
+];
 
-/// 01's rules but for the slip.
+pub const SLIPS_OF_M_101: [Slip; 5] =
+    [Slip::LedgerLost, Slip::MissingUnasked, Slip::LackingAddsNone, Slip::MissingUnread, Slip::MissingRefused];
+
+impl Slip {
+    /// A keeper without a row has signed nothing of it, so whatever is asked of it where it is missing, no two verdicts differ:
+    /// the other trials must catch these.
+    pub fn shows_in_histories(self) -> bool {
+        self == Slip::LedgerLost || !SLIPS_OF_M_101.contains(&self)
+    }
+}
+
+/// The rules but for the slip.
 impl Rules for Slip {
     fn majority(&self, n: u8) -> usize {
         match self {
@@ -58,10 +90,34 @@ impl Rules for Slip {
     fn is_derived(&self, ours: &[Row], bundle: &Bundle, rolls: &[Roll]) -> bool {
         match self {
             Slip::OwnRollAlone => true,
-            Slip::FirstOldOnly => leads_to(ours, rolls[0].used(), &bundle.old[0].added),
-            _ => bundle::is_derived(ours, bundle, rolls),
+            Slip::FirstOldOnly => bundle::is_derived(self, ours, &bundle.old[..1], &rolls[..1]),
+            _ => bundle::is_derived(self, ours, &bundle.old, rolls),
         }
     }
+
+    fn no_more_labels(&self, ours: &[Row], old: &[Row]) -> bool {
+        *self == Slip::LedgerLost || Of01.no_more_labels(ours, old)
+    }
+
+    fn row_is_derived(&self, our: &Row, held: &[Held]) -> bool {
+        let lacking = held.iter().filter(|held| held.row.is_none()).count();
+        match self {
+            Slip::FirstOldOnly => leads_to(our, &held[0]),
+            Slip::MissingRefused if lacking > 0 => false,
+            Slip::MissingUnasked if lacking == held.len() => true,
+            Slip::MissingUnasked => Of01.row_is_derived(our, &without(held, |held| held.row.is_none())),
+            Slip::MissingUnread => {
+                let counted = |held: &Held| held.row.is_none() && held.digests.len() as u64 == our.height;
+                Of01.row_is_derived(our, &without(held, counted))
+            }
+            Slip::LackingAddsNone if (1..held.len()).contains(&lacking) => held.iter().all(|held| leads_to(our, held)),
+            _ => Of01.row_is_derived(our, held),
+        }
+    }
+}
+
+fn without<'a>(held: &[Held<'a>], left_out: impl Fn(&Held) -> bool) -> Vec<Held<'a>> {
+    held.iter().filter(|held| !left_out(held)).copied().collect()
 }
 
 impl Party for Slip {

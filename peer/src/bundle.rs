@@ -138,23 +138,42 @@ pub fn old_rolls(bundle: &Bundle) -> Result<Vec<Roll>, Refusal> {
     bundle.old.iter().map(|entry| roll::read(entry.blocks)).collect()
 }
 
+/// What one old roll has of one of our rows, if it has it, and the digests listed for it.
+#[derive(Clone, Copy)]
+pub struct Held<'a> {
+    pub row: Option<&'a Row>,
+    pub digests: &'a [[u8; 32]],
+}
+
 /// "The roll is derived exactly if, for each old roll: its labels are those of this keeper's roll, no more and no fewer;
 /// and for each row, its height plus the count equals ours and appending the listed digests to its tail gives our tail.
-/// Also, for each row, some old roll that has it adds none."
-pub fn is_derived(ours: &[Row], bundle: &Bundle, rolls: &[Roll]) -> bool {
-    let each_leads_here = bundle.old.iter().zip(rolls).all(|(entry, old)| leads_to(ours, old.used(), &entry.added));
-    // Every old roll has every row once the labels agree, so "that has it" leaves all of them (reading C25).
-    let each_row_kept = (0..ours.len()).all(|row| bundle.old.iter().any(|entry| entry.added[row].is_empty()));
-    each_leads_here && each_row_kept
+/// Also, for each row, some old roll that has it adds none." Since M-101 there may be fewer.
+pub fn is_derived<R: Rules + ?Sized>(rules: &R, ours: &[Row], old: &[OldEntry], rolls: &[Roll]) -> bool {
+    let no_more_labels = rolls.iter().all(|roll| rules.no_more_labels(ours, roll.used()));
+    let each_row_derived = ours.iter().enumerate().all(|(place, our)| {
+        let held: Vec<Held> =
+            old.iter().zip(rolls).map(|(entry, roll)| held(roll.used(), &our.label, &entry.added[place])).collect();
+        rules.row_is_derived(our, &held)
+    });
+    no_more_labels && each_row_derived
 }
 
-/// What is asked of one old roll with the digests listed for it.
-pub fn leads_to(ours: &[Row], old: &[Row], added: &[Digests]) -> bool {
-    let same_labels = old.len() == ours.len() && old.iter().zip(ours).all(|(o, our)| o.label == our.label);
-    same_labels && old.iter().zip(ours).zip(added).all(|((o, our), digests)| row_leads_to(o, our, digests))
+fn held<'a>(old: &'a [Row], label: &[u8; 16], digests: &'a [[u8; 32]]) -> Held<'a> {
+    Held { row: old.iter().find(|row| row.label == *label), digests }
 }
 
-fn row_leads_to(old: &Row, our: &Row, digests: &Digests) -> bool {
-    let tail = digests.iter().fold(old.tail, |tail, digest| appended(&tail, digest));
-    old.height + digests.len() as u64 == our.height && tail == our.tail
+/// M-101: "A row missing from an old roll shall count as height 0 with the zero tail, provided that another old roll in the
+/// bundle has it; the rest of the derivation stays, so some roll that does have the row must add none." The proviso follows
+/// from the last sentence, and both are kept (reading E4).
+pub fn row_is_derived(our: &Row, held: &[Held]) -> bool {
+    let another_has_it = held.iter().any(|held| held.row.is_some());
+    let one_that_has_it_adds_none = held.iter().any(|held| held.row.is_some() && held.digests.is_empty());
+    another_has_it && one_that_has_it_adds_none && held.iter().all(|held| leads_to(our, held))
+}
+
+/// "its height plus the count equals ours and appending the listed digests to its tail gives our tail"
+pub fn leads_to(our: &Row, held: &Held) -> bool {
+    let old = held.row.copied().unwrap_or(Row { label: our.label, ..Row::ZERO });
+    let tail = held.digests.iter().fold(old.tail, |tail, digest| appended(&tail, digest));
+    old.height + held.digests.len() as u64 == our.height && tail == our.tail
 }

@@ -1,6 +1,6 @@
-//! This file holds the sentences of 01 at which its slips aim, as 01 says them; `broken.rs` says one of them otherwise.
+//! This file holds the sentences of 01 and 02 at which the slips aim, as they are said; `broken.rs` says one of them otherwise.
 
-use crate::bundle::{self, Bundle};
+use crate::bundle::{self, Bundle, Held};
 use crate::roll::Roll;
 use crate::row::Row;
 use crate::statement::KIND_READ;
@@ -28,11 +28,21 @@ pub trait Rules {
 
     /// "The roll is derived exactly if, for each old roll: …"
     fn is_derived(&self, ours: &[Row], bundle: &Bundle, rolls: &[Roll]) -> bool {
-        bundle::is_derived(ours, bundle, rolls)
+        bundle::is_derived(self, ours, &bundle.old, rolls)
+    }
+
+    /// "its labels are those of this keeper's roll, no more"
+    fn no_more_labels(&self, ours: &[Row], old: &[Row]) -> bool {
+        old.iter().all(|row| ours.iter().any(|our| our.label == row.label))
+    }
+
+    /// "for each row, its height plus the count equals ours …", with M-101 where an old roll lacks it.
+    fn row_is_derived(&self, our: &Row, held: &[Held]) -> bool {
+        bundle::row_is_derived(our, held)
     }
 }
 
-/// The rules as 01 has them.
+/// The rules as 01 has them, with the requests of 02 that have landed.
 pub struct Of01;
 
 impl Rules for Of01 {}

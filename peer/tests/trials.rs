@@ -1,11 +1,11 @@
 //! This file tests that the peer passes every trial, that each broken rule is caught, and that the comparison sees differences.
 
-use peer::broken::{Slip, SLIPS};
+use peer::broken::{Slip, SLIPS, SLIPS_OF_M_101};
 use peer::party::{Party, Peer};
 use peer::trial::lists::LISTS;
 use peer::trial::pairing::Pairing;
 use peer::trial::prng::Prng;
-use peer::trial::{history, hostile, layouts, numbers, order, readings, records};
+use peer::trial::{history, hostile, layouts, missing, numbers, order, readings, records};
 use std::time::Instant;
 
 fn quiet<'a>(first: &'a dyn Party, second: &'a dyn Party, seed: u64) -> Pairing<'a> {
@@ -69,9 +69,50 @@ fn sound_rules_survive_hostile_histories() {
     assert!(activated > 100 && accepted > 1_000, "{activated} activations, {accepted} accepted verdicts");
 }
 
+/// 01's numbers, the readings and the order alone, without a history.
+#[test]
+fn trials_catch_each_slip() {
+    for slip in SLIPS {
+        let mut prng = Prng::new(19);
+        let mut pairing = quiet(&slip, &slip, 19);
+        numbers::run(&mut pairing, &mut prng);
+        readings::run(&mut pairing, &mut prng);
+        order::run(&mut pairing, &mut prng);
+        println!("{slip:?}: {} faults", pairing.tally.faults);
+        assert!(pairing.tally.faults > 0, "{slip:?} was not caught");
+    }
+}
+
+#[test]
+fn missing_rows_catch_each_slip_of_m_101() {
+    for slip in SLIPS_OF_M_101 {
+        let mut pairing = quiet(&slip, &slip, 20);
+        missing::run(&mut pairing, &mut Prng::new(20));
+        println!("{slip:?}: {} of {} calls", pairing.tally.faults, pairing.tally.calls);
+        assert!(pairing.tally.faults > 0, "{slip:?} was not caught");
+    }
+}
+
+/// Each difference from the rule before M-101 is a handover that is accepted although an old roll lacks a row.
+#[test]
+fn histories_hand_over_missing_rows() {
+    let mut prng = Prng::new(21);
+    let mut pairing = quiet(&Peer, &Slip::MissingRefused, 21);
+    for _ in 0..600 {
+        history::run_any(&mut pairing, &mut prng);
+    }
+    println!("{} handovers with a missing row", pairing.tally.differences);
+    assert_eq!(pairing.tally.first_fault, None);
+    assert!(pairing.tally.differences > 10);
+}
+
+fn slips_of_histories() -> impl Iterator<Item = Slip> {
+    SLIPS.into_iter().filter(|slip| slip.shows_in_histories())
+}
+
 #[test]
 fn aimed_histories_catch_each_slip() {
-    for slip in SLIPS {
+    for slip in slips_of_histories() {
         let mut pairing = quiet(&slip, &slip, 15);
         hostile::run(&mut pairing, &mut Prng::new(15));
         assert!(pairing.tally.faults > 0, "{slip:?} was not caught");
@@ -82,7 +123,7 @@ fn aimed_histories_catch_each_slip() {
 /// By chance alone, without a history aimed at the slip, within a bound of calls.
 #[test]
 fn histories_by_chance_catch_each_slip() {
-    for slip in SLIPS {
+    for slip in slips_of_histories() {
         let start = Instant::now();
         let mut prng = Prng::new(16);
         let mut pairing = quiet(&slip, &slip, 16);
@@ -98,7 +139,7 @@ fn histories_by_chance_catch_each_slip() {
 /// Demand 3 itself, and not only the request to an erased key, is broken by each slip but the nonce's.
 #[test]
 fn aimed_histories_break_demand_3() {
-    for slip in SLIPS.into_iter().filter(|slip| *slip != Slip::NonceIgnored) {
+    for slip in slips_of_histories().filter(|slip| *slip != Slip::NonceIgnored) {
         let mut pairing = quiet(&slip, &slip, 17);
         hostile::run(&mut pairing, &mut Prng::new(17));
         assert!(pairing.tally.demand_3 > 0, "{slip:?} never broke demand 3");

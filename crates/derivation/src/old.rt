@@ -1,8 +1,9 @@
-// An old roll beside this keeper's roll: the same labels, and rows that the listed digests lead on from.
+// An old roll beside this keeper's roll: no other labels, and rows that the listed digests lead on from.
 use crate::growth;
 use octets::is_same;
 use rows::DIGEST;
 use rows::Found;
+use rows::TAIL;
 use rows::find;
 use rows::height_at;
 use rows::label_at;
@@ -21,7 +22,7 @@ ghost use Rattle.rules.specs.Rows.{is-absent};
 ghost use Rattle.rules.specs.Derivation.{no-more, grown, row-derived};
 
 // Whether a roll has the label of row i of another table.
-fn has_label_of(rows: &[u8], count: usize, other: &[u8], i: usize) -> bool
+pub fn has_label_of(rows: &[u8], count: usize, other: &[u8], i: usize) -> bool
     requires { ⌜ (i < most-rows) × (length (now other) ≡ table-bytes) ⌝ }
     ensures { λ r. ⌜ r ≡ not (is-absent (search.find count (now (rows .entry)) (label-of (now (other .entry)) i))) ⌝ }
 {
@@ -56,27 +57,28 @@ fn is_higher_by(before: u64, n: u64, after: u64) -> bool
     after - before == n
 }
 
-// Whether the digests of a string lead from row q of the old roll to row r of ours.
-fn is_grown(ours: &[u8], r: usize, old: &[u8], q: usize, s: &[u8]) -> bool
-    requires { ⌜ (r < most-rows) × (q < most-rows) × (length (now ours) ≡ table-bytes) × (length (now old) ≡ table-bytes) ⌝ }
-    ensures { λ b. ⌜ b ≡ (eqb (height-of (now (old .entry)) q + length (now (s .entry)) / digest-bytes) (height-of (now (ours .entry)) r) && same (grown (tail-of (now (old .entry)) q) (now (s .entry)) (length (now (s .entry)) / digest-bytes)) (tail-of (now (ours .entry)) r)) ⌝ }
+// Whether the digests of a string lead from a height and a tail to row r of ours.
+fn is_grown(ours: &[u8], r: usize, height: u64, tail: [u8; TAIL], s: &[u8]) -> bool
+    requires { ⌜ (r < most-rows) × (length (now ours) ≡ table-bytes) ⌝ }
+    ensures { λ b. ⌜ b ≡ (eqb (height + length (now (s .entry)) / digest-bytes) (height-of (now (ours .entry)) r)
+        && same (grown tail (now (s .entry)) (length (now (s .entry)) / digest-bytes)) (tail-of (now (ours .entry)) r)) ⌝ }
 {
     let n = (s.len() / DIGEST) as u64;
-    if !is_higher_by(height_at(old, q), n, height_at(ours, r)) {
+    if !is_higher_by(height, n, height_at(ours, r)) {
         return false;
     }
-    let tail = growth::grown(tail_at(old, q), s);
-    is_same(&tail, &tail_at(ours, r))
+    let last = growth::grown(tail, s);
+    is_same(&last, &tail_at(ours, r))
 }
 
-// Whether the old roll has the label of row r of ours, and the digests of a string lead from its row to ours.
+// Whether the digests of a string lead to row r of ours from the old roll's row of that label, or from nothing where it has none.
 pub fn row_derived(ours: &[u8], r: usize, old: &[u8], size: usize, s: &[u8]) -> bool
     requires { ⌜ (r < most-rows) × (length (now ours) ≡ table-bytes) × (length (now old) ≡ table-bytes) ⌝ }
     ensures { λ b. ⌜ ((n : ℕ) → b ≡ row-derived (record { count = n; rows = now (ours .entry) }) (record { count = size; rows = now (old .entry) }) r (now (s .entry)) (length (now (s .entry)) / digest-bytes)) ⌝ }
 {
     let found = find(old, size, label_at(ours, r));
     match found {
-        Found::At(q) => is_grown(ours, r, old, q, s),
-        Found::Absent => false,
+        Found::At(q) => is_grown(ours, r, height_at(old, q), tail_at(old, q), s),
+        Found::Absent => is_grown(ours, r, 0, [0u8; TAIL], s),
     }
 }

@@ -1,9 +1,9 @@
 -- What the functions behind Activate and Bytes to check are asked for, and what they may count on.
 use mathlib.Core.Path.{_≡_}
-use mathlib.Core.Bool.{Bool, true, not, cond, _||_}
+use mathlib.Core.Bool.{Bool, true, false, not, cond, _&&_, _||_}
 use mathlib.Core.List.{List, [], _∷_, _++_}
-use Prim.Native.Nat.{ℕ, _*_, _≤_}
-use lib.ListN.{length}
+use Prim.Native.Nat.{ℕ, _*_, _<_, _≤_}
+use lib.ListN.{length, getD}
 use lib.Dec.{eqb, ltb}
 use Rattle.refusals.specs.{rack-broken, digest-differs, list-broken}
 use Rattle.refusals.specs.Order.{Test, _⇒_, first}
@@ -19,8 +19,9 @@ use Rattle.statement.specs.Kinds.{handover-size}
 use Rattle.statement.specs.Cut.{handover-of}
 use Rattle.rules.specs.declared.Head.{Head}
 use Rattle.rules.specs.Outcomes.{Lent}
+use Rattle.rules.specs.Rows.{is-absent}
 use Rattle.rules.specs.Bundle.{longest-bundle, old-count, old-roll, new-count, list-at, list-of, added, digests, bundle-fits}
-use Rattle.rules.specs.Derivation.{some, row-derived, roll-of}
+use Rattle.rules.specs.Derivation.{row-in, row-derived, roll-of}
 use Rattle.rules.specs.Activate.{rack-size, racks-differ, bundle-tests, handover-tests}
 use Rattle.rules.specs.Check.{old-list, entries-of}
 
@@ -69,13 +70,17 @@ pub record Shown (head : Head) (table previous own s : List ℕ) : Type 0 where
 abbrev pub led : Roll → Roll → List ℕ → ℕ → ℕ → Bool
 led ours old s i r = row-derived ours old r (digests s (list-of (ours .count) i r)) (added s (list-of (ours .count) i r))
 
--- old entry i lists no digests for row r, of so many rows
-abbrev pub none-added : List ℕ → ℕ → ℕ → ℕ → Bool
-none-added s rows r i = eqb (added s (list-of rows i r)) 0
+-- an old roll has row r of ours, and old entry i lists no digests for it
+abbrev pub keeps : Roll → Roll → List ℕ → ℕ → ℕ → Bool
+keeps ours old s i r = not (is-absent (row-in old ours r)) && eqb (added s (list-of (ours .count) i r)) 0
 
--- some old entry does
-abbrev pub kept : List ℕ → ℕ → ℕ → Bool
-kept s rows r = some (none-added s rows r) (old-count s)
+-- the flag of row r
+abbrev pub flag : List Bool → ℕ → Bool
+flag flags r = getD flags r false
+
+-- where each flag of ours said which rows were kept so far, it says so with old entry i as well
+abbrev pub Noted : Roll → Roll → List ℕ → ℕ → List Bool → List Bool → Type 0
+Noted ours old s i before after = (r : ℕ) → r < ours .count → flag after r ≡ (flag before r || keeps ours old s i r)
 
 -- the digest of the roll of old entry i
 abbrev pub old-digest : List ℕ → ℕ → List ℕ

@@ -1,36 +1,67 @@
-// Whether each row is one to which some old entry adds nothing.
+// Which rows some old roll has and adds nothing to.
 use bundle::added_at;
 use bundle::list_at;
-use bundle::old_count;
+use bundle::next_list;
+use derivation::has_label_of;
 ghost use mathlib.Core.Path.{_≡_};
-ghost use Prim.Native.Nat.{_<_};
+ghost use mathlib.Core.Bool.{not, _&&_, _||_};
+ghost use Prim.Native.Nat.{_+_, _<_, _≤_};
+ghost use lib.ListN.{length};
+ghost use lib.Dec.{eqb};
+ghost use Rattle.rows.specs.Sizes.{most-rows, table-bytes};
+ghost use Rattle.rows.specs.Row.{label-of};
 ghost use Rattle.rows.specs.Table.{each};
-ghost use Rattle.handover.specs.Asked.{Laid, kept};
+ghost use Rattle.rows.specs.Search.{find};
+ghost use Rattle.rules.specs.Rows.{is-absent};
+ghost use Rattle.rules.specs.Bundle.{old-count, two-byte};
+ghost use Rattle.handover.specs.Asked.{Laid, flag, Noted};
 
-// Whether some old entry lists no digests for row r.
-fn is_kept(s: &[u8], rows: usize, r: usize) -> bool
-    requires { ⌜ Laid rows (now s) × (r < rows) ⌝ }
-    ensures { λ b. ⌜ b ≡ kept (now (s .entry)) rows r ⌝ }
+// Whether row r is kept already, or an old roll has it and the list at a place has no digests.
+fn is_kept(kept: bool, table: &[u8], r: usize, old: &[u8], size: usize, s: &[u8], at: usize) -> bool
+    requires { ⌜ (r < most-rows) × (length (now table) ≡ table-bytes) × (at + 2 ≤ length (now s)) ⌝ }
+    ensures { λ b. ⌜ b ≡ (kept
+        || (not (is-absent (find size (now (old .entry)) (label-of (now (table .entry)) r))) && eqb (two-byte (now (s .entry)) at) 0)) ⌝ }
 {
-    let count = old_count(s);
-    let mut i = 0;
-    while i < count {
-        if added_at(s, list_at(s, rows * i + r)) == 0 {
-            return true;
-        }
-        i += 1;
+    if kept {
+        return true;
     }
-    false
+    if added_at(s, at) != 0 {
+        return false;
+    }
+    has_label_of(old, size, table, r)
 }
 
-// The same of each row.
-pub fn all_kept(s: &[u8], rows: usize) -> bool
-    requires { ⌜ Laid rows (now s) ⌝ }
-    ensures { λ b. ⌜ b ≡ each (kept (now (s .entry)) rows) rows ⌝ }
+// Flags the rows that the roll of old entry i has and the entry adds nothing to.
+pub fn note_kept(
+    table: &[u8],
+    rows: usize,
+    old: &[u8],
+    size: usize,
+    s: &[u8],
+    i: usize,
+    kept: &mut [bool],
+)
+    requires { ⌜ Laid rows (now s) × (length (now table) ≡ table-bytes) × (i < old-count (now s)) × (rows ≤ length (now kept)) ⌝ }
+    ensures { λ r. ⌜ Noted (record { count = rows; rows = now (table .entry) }) (record { count = size; rows = now (old .entry) })
+        (now (s .entry)) i (now (kept .entry)) (now (kept .exit)) ⌝ }
+{
+    let mut at = list_at(s, rows * i);
+    let mut r = 0;
+    while r < rows {
+        kept[r] = is_kept(kept[r], table, r, old, size, s, at);
+        at = next_list(s, at);
+        r += 1;
+    }
+}
+
+// Whether each row is flagged.
+pub fn all_kept(kept: &[bool], rows: usize) -> bool
+    requires { ⌜ rows ≤ length (now kept) ⌝ }
+    ensures { λ b. ⌜ b ≡ each (flag (now (kept .entry))) rows ⌝ }
 {
     let mut r = 0;
     while r < rows {
-        if !is_kept(s, rows, r) {
+        if !kept[r] {
             return false;
         }
         r += 1;

@@ -16,7 +16,6 @@ use Rattle.marks.specs.Entries.{marks-tests, pair-marks}
 use Rattle.marks.proofs.Refused.{marks-numbered}
 use Rattle.rack.specs.Racks.{rack-layout, majority}
 use Rattle.rack.proofs.NumbersToTry.{majorities, none-is-broken, sixteen-is-broken, fifteen}
-use Rattle.rows.proofs.Tables.{and-false, each-fails}
 use Rattle.roll.specs.Roll.{Roll}
 use Rattle.roll.proofs.NumbersToTry.{blocks-tried}
 use Rattle.rows.specs.Digests.{appended}
@@ -32,13 +31,15 @@ use Rattle.rules.specs.Initialise.{is-in-rack, initialise-refusal, initialising
 use Rattle.rules.specs.New.{new-refusal, making}
 use Rattle.rules.specs.Append.{append-refusal, moved-on, append-statement, appending}
 use Rattle.rules.specs.Finalise.{finalise-size, last-words, handed-over, finalise-refusal, leaving, finalising}
-use Rattle.rules.specs.Bundle.{old-count, old-marks, new-count, new-entries, added, digests, list-of}
-use Rattle.rules.specs.Derivation.{row-in, no-more, row-derived, roll-of, roll-derived, derived}
-use Rattle.rules.specs.Activate.{rack-size, own-roll, bundle-tests, handover-tests, activating}
+use Rattle.rules.specs.Bundle.{old-count, old-marks, new-count, new-entries}
+use Rattle.rules.specs.Derivation.{row-in, roll-of, roll-derived, kept-by-some, derived}
+use Rattle.rules.specs.Activate.{rack-size, own-roll, bundle-tests, handover-tests, acting, activating}
+use Rattle.rules.proofs.Somes.{each-all}
+use Rattle.rules.proofs.Derived.{rows-decide, lacked-by-all as lacked}
 use Rattle.rules.proofs.FoundRows.{row-found, row-labelled}
 use Rattle.rules.proofs.Firsts.{sound-rows}
 use Rattle.desk.proofs.NumbersToTry.{listed-twice, one-signer, two-signers}
-use Rattle.numbers.specs.Cases.{Ready, Stands, Offered, Numbers-to-try}
+use Rattle.numbers.specs.Cases.{Ready, Stands, Offered, Rest-holds, Numbers-to-try}
 use Rattle.numbers.proofs.Prepared.{lent-by, status-refuses, ready-by, comes-to, has-effect}
 
 append-on-blank : (k : Lent) (label entry : List ℕ) (expected : ℕ) → Ready blank receipt-size k → appending k label entry expected ≡ refused 4 0 k
@@ -117,14 +118,12 @@ roll-alone k identity roll own r h member some =
     comes-to _ 8 0 k _
     (ready-by handover-size k (r .room) (r .sounds) blank not-blank _ (r .has-status) ∙ rw (h, member, ne-eqb (length roll) 0 (omega arith))) refl
 
--- one row that an old roll lacks decides
-underived : (ours : Roll) (s : List ℕ) (i r : ℕ) → i < old-count s → r < ours .count → is-absent (row-in (roll-of s i) ours r) ≡ true → derived ours s ≡ false
-unfolding derived roll-derived row-derived
-underived ours s i r h l a =
-    let j : ℕ = list-of (ours .count) i r in
-    let row : row-derived ours (roll-of s i) r (digests s j) (added s j) ≡ false = rw a in
-    let roll : roll-derived ours s i ≡ false = and-false (no-more ours (roll-of s i)) (each-fails _ (ours .count) r l row) in
-    rw (each-fails (roll-derived ours s) (old-count s) i h roll)
+-- what is asked beside another roll that has the row derives the roll
+rest-derives : (ours : Roll) (s : List ℕ) → Rest-holds ours s → derived ours s ≡ true
+unfolding roll-derived
+rest-derives ours s rest =
+    rows-decide ours s (each-all (roll-derived ours s) (old-count s) (λ i h. rw (rest .no-others i h) (each-all _ (ours .count) (λ r l. rest .leads i r h l))))
+    ∙ each-all (kept-by-some ours s) (ours .count) (rest .kept)
 
 module _ (k : Lent) (previous own s : List ℕ) (o : Offered k previous own s) where
   enough : (ltb (old-count s) (majority (rack-size previous)) || ltb (new-count s) (majority (rack-size own))) ≡ false
@@ -142,14 +141,19 @@ module _ (k : Lent) (previous own s : List ℕ) (o : Offered k previous own s) w
       ∙ goes-on olds (news ++ last) accepted (marks-numbered signature-not-valid (omega arith) (old-marks s) (old-count s)) (sym (o .old-marked)) refl
       ∙ goes-on news last accepted (marks-numbered initialise-not-valid (omega arith) (pair-marks (new-entries s)) (new-count s)) (sym (o .new-marked)) refl
 
-  lacking-one :
-      (i r : ℕ) → i < old-count s → r < k .head .count → is-absent (row-in (roll-of s i) (own-roll k) r) ≡ true
+  decided : first (bundle-tests 0 k previous own s ++ handover-tests k previous own s) ≡ first ((not (derived (own-roll k) s) ⇒ not-derived) ∷ [])
+  unfolding bundle-tests readiness lending numbered
+  decided = goes-on (bundle-tests 0 k previous own s) (handover-tests k previous own s) accepted refl (sym (o .passes)) refl ∙ marked
+
+  lacking-one : Rest-holds (own-roll k) s → activating k previous own s ≡ given [] (acting (k .head)) (k .table) (k .area)
+  unfolding activating first
+  lacking-one rest = has-effect _ 0 k _ (decided ∙ lets-by _ not-derived [] (ap not (rest-derives (own-roll k) s rest)))
+
+  lacked-by-all :
+      (r : ℕ) → r < k .head .count → ((i : ℕ) → i < old-count s → is-absent (row-in (roll-of s i) (own-roll k) r) ≡ true)
       → activating k previous own s ≡ refused 20 0 k
-  unfolding activating bundle-tests readiness lending numbered
-  lacking-one i r h l a =
-      comes-to _ 20 0 k _
-      (goes-on (bundle-tests 0 k previous own s) (handover-tests k previous own s) accepted refl (sym (o .passes)) refl
-      ∙ marked ∙ refuses _ not-derived [] (ap not (underived (own-roll k) s i r h l a))) refl
+  unfolding activating
+  lacked-by-all r l h = comes-to _ 20 0 k _ (decided ∙ refuses _ not-derived [] (ap not (lacked (own-roll k) s r l h))) refl
 
 pub tried-all : Numbers-to-try
 tried-all =
@@ -171,5 +175,6 @@ tried-all =
       one-signer = λ q s p a. one-signer q s (a .about .rack-holds) (a .about .of-three) (a .asked-for) (a .nonce) p;
       two-signers = λ q s p r a. two-signers q s (a .about .rack-holds) (a .about .of-three) (a .asked-for) (a .nonce) p r;
       roll-alone = roll-alone;
-      lacking-one = λ k previous own s i r o. lacking-one k previous own s o i r;
+      lacking-one = λ k previous own s i j r o h h' l lacks has rest. lacking-one k previous own s o rest;
+      lacked-by-all = λ k previous own s r o. lacked-by-all k previous own s o r;
     }

@@ -11,6 +11,7 @@ use Rattle.rack.specs.Racks.{rack-layout, rack-cut, majority}
 use Rattle.rack.specs.Promise.{reading}
 use Rattle.rows.specs.Digests.{appended}
 use Rattle.roll.specs.Blocks.{blocks}
+use Rattle.roll.specs.Roll.{Roll}
 use Rattle.statement.specs.declared.Kind.the-variants.{Append}
 use Rattle.statement.specs.Kinds.{receipt-size, handover-size}
 use Rattle.statement.specs.Contents.{statement-written}
@@ -22,9 +23,9 @@ use Rattle.rules.specs.Initialise.{is-in-rack, initialising}
 use Rattle.rules.specs.New.{making}
 use Rattle.rules.specs.Append.{appending}
 use Rattle.rules.specs.Finalise.{finalise-size, last-words, handed-over, finalising}
-use Rattle.rules.specs.Bundle.{old-count, old-marks, new-count, new-entries}
-use Rattle.rules.specs.Derivation.{row-in, roll-of}
-use Rattle.rules.specs.Activate.{rack-size, own-roll, bundle-tests, activating}
+use Rattle.rules.specs.Bundle.{old-count, old-marks, new-count, new-entries, added, digests, list-of}
+use Rattle.rules.specs.Derivation.{row-in, no-more, row-derived, roll-of, kept-by-some}
+use Rattle.rules.specs.Activate.{rack-size, own-roll, bundle-tests, acting, activating}
 use Rattle.marks.specs.Entries.{marks-tests, pair-marks}
 use Rattle.desk.specs.Verdict.{Question, is-asked-for, has-other-nonce, nothing-shown, shown, judging}
 
@@ -58,6 +59,14 @@ pub record Offered (k : Lent) (previous own s : List ℕ) : Type 0 where
   pub new-many : majority (rack-size own) ≤ new-count s
   pub old-marked : first (marks-tests signature-not-valid (old-marks s) (old-count s)) ≡ accepted
   pub new-marked : first (marks-tests initialise-not-valid (pair-marks (new-entries s)) (new-count s)) ≡ accepted
+
+-- "the rest of the derivation": no old roll has other labels, each leads to our rows by what is listed for it, and each row is kept by some
+pub record Rest-holds (ours : Roll) (s : List ℕ) : Type 0 where
+  pub no-others : (i : ℕ) → i < old-count s → no-more ours (roll-of s i) ≡ true
+  pub leads :
+      (i r : ℕ) → i < old-count s → r < ours .count
+      → row-derived ours (roll-of s i) r (digests s (list-of (ours .count) i r)) (added s (list-of (ours .count) i r)) ≡ true
+  pub kept : (r : ℕ) → r < ours .count → kept-by-some ours s r ≡ true
 
 pub record Numbers-to-try : Type 0 where
   -- "majorities of 1, 2, 3, 4, 15: 1, 2, 2, 3, 8"
@@ -97,7 +106,11 @@ pub record Numbers-to-try : Type 0 where
   pub roll-alone :
       (k : Lent) (identity roll own : List ℕ) → Ready blank handover-size k → holds rack-layout own ≡ true → is-in-rack (k .head .key) own ≡ true
       → 1 ≤ length roll → initialising k identity roll [] own ≡ refused 8 0 k
-  -- "an old roll lacking one of our ledgers: 20"
+  -- "an old roll lacking one of our ledgers: 20"; since M-101 of 02 "accepted when another old roll has it, otherwise 20"
   pub lacking-one :
-      (k : Lent) (previous own s : List ℕ) (i r : ℕ) → Offered k previous own s → i < old-count s → r < k .head .count
-      → is-absent (row-in (roll-of s i) (own-roll k) r) ≡ true → activating k previous own s ≡ refused 20 0 k
+      (k : Lent) (previous own s : List ℕ) (i j r : ℕ) → Offered k previous own s → i < old-count s → j < old-count s → r < k .head .count
+      → is-absent (row-in (roll-of s i) (own-roll k) r) ≡ true → is-absent (row-in (roll-of s j) (own-roll k) r) ≡ false → Rest-holds (own-roll k) s
+      → activating k previous own s ≡ given [] (acting (k .head)) (k .table) (k .area)
+  pub lacked-by-all :
+      (k : Lent) (previous own s : List ℕ) (r : ℕ) → Offered k previous own s → r < k .head .count
+      → ((i : ℕ) → i < old-count s → is-absent (row-in (roll-of s i) (own-roll k) r) ≡ true) → activating k previous own s ≡ refused 20 0 k

@@ -6,6 +6,8 @@ pub mod FoundRows
 pub mod Initialised
 pub mod Noted
 pub mod Finalised
+pub mod Somes
+pub mod Derived
 pub mod Activated
 pub mod TablesChanged
 pub mod TablesLeft

@@ -16,8 +16,8 @@ use Rattle.rows.specs.Search.{find}
 use Rattle.rows.proofs.Tables.{each-of}
 use Rattle.rows.proofs.Searches.{found-is}
 use Rattle.roll.specs.Roll.{Roll}
-use Rattle.rules.specs.Rows.{is-absent, row-number}
-use Rattle.rules.specs.Derivation.{row-in, no-more, grown, row-derived}
+use Rattle.rules.specs.Rows.{is-absent}
+use Rattle.rules.specs.Derivation.{row-in, no-more, grown, counted-height, counted-tail, row-derived}
 use Rattle.safety.proofs.Views.{Reaches, Grows}
 use Rattle.safety.proofs.Looks.{look-at, shown-at}
 
@@ -28,8 +28,8 @@ module _ (ours old : Roll) where
       → (height-of (old .rows) q + n ≡ height-of (ours .rows) r) × (grown (tail-of (old .rows) q) s n ≡ tail-of (ours .rows) r)
   unfolding row-derived
   row-parts r q s n x d =
-      let a : Found → Bool = λ f. not (is-absent f) && eqb (height-of (old .rows) (row-number f) + n) (height-of (ours .rows) r) in
-      let b : Found → Bool = λ f. same (grown (tail-of (old .rows) (row-number f)) s n) (tail-of (ours .rows) r) in
+      let a : Found → Bool = λ f. eqb (counted-height old f + n) (height-of (ours .rows) r) in
+      let b : Found → Bool = λ f. same (grown (counted-tail old f) s n) (tail-of (ours .rows) r) in
       let e : (a (At q) && b (At q)) ≡ true = subst (λ (f : Found). (a f && b f) ≡ true) x d in (
         eqb-true (height-of (old .rows) q + n) (height-of (ours .rows) r) (and-left (a (At q)) (b (At q)) e),
         same-is (grown (tail-of (old .rows) q) s n) (tail-of (ours .rows) r) (and-right (a (At q)) (b (At q)) e),

@@ -1,6 +1,6 @@
 -- Activate takes over: from a majority of the previous rack, whose rolls are reached, and with a majority of its own. Assumes nothing.
 use mathlib.Core.Path.{_≡_, refl, ap, subst}
-use mathlib.Core.Bool.{true}
+use mathlib.Core.Bool.{true, _&&_}
 use mathlib.Core.List.{List, [], _∷_, map}
 use Prim.Native.Nat.{ℕ, _<_}
 use native.Mathlib.Omega.{arith}
@@ -20,7 +20,7 @@ use Rattle.rules.specs.Outcomes.{Lent, given}
 use Rattle.rules.specs.Bundle.{old-count, old-position, old-marks, old-roll, new-count, new-entries, added, digests, list-of}
 use Rattle.rules.specs.Initialise.{initialise-statement}
 use Rattle.rules.specs.Finalise.{finalise-statement}
-use Rattle.rules.specs.Derivation.{roll-of, no-more, row-derived, roll-derived, kept-by-some, derived}
+use Rattle.rules.specs.Derivation.{roll-of, no-more, row-derived, roll-derived, had-elsewhere, kept-by-some, derived}
 use Rattle.rules.specs.Activate.{rack-size, own-roll, acting, activating}
 use Rattle.rules.specs.Check.{old-statement}
 use Rattle.rules.proofs.Activated.{Bundled, Handing, both-tests}
@@ -43,7 +43,9 @@ roll-grows :
 unfolding derived roll-derived roll-layout
 roll-grows k s i h fit rolls d =
     let ours = own-roll k in
-    let e = each-of (roll-derived ours s) (old-count s) i h (and-left (each (roll-derived ours s) (old-count s)) (each (kept-by-some ours s) (ours .count)) d) in
+    let all = each (roll-derived ours s) (old-count s) in
+    let had = each (had-elsewhere ours s) (old-count s) in
+    let e = each-of (roll-derived ours s) (old-count s) i h (and-left all had (and-left (all && had) (each (kept-by-some ours s) (ours .count)) d)) in
     let a = no-more ours (roll-of s i) in
     let b = each (λ r. row-derived ours (roll-of s i) r (digests s (list-of (ours .count) i r)) (added s (list-of (ours .count) i r))) (ours .count) in
     derived-grows ours (roll-of s i) fit (holds-fits roll-layout (old-roll s i) (each-of (λ i. holds roll-layout (old-roll s i)) (old-count s) i h rolls))

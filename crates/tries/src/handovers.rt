@@ -6,6 +6,7 @@ use crate::keepers::with_ledgers;
 use crate::keepers::woken;
 use crate::layouts::BLOCK;
 use crate::people::rack_of_one;
+use crate::people::rack_of_three;
 use crate::say;
 use rows::TABLE;
 use rules::Answer;
@@ -22,6 +23,9 @@ const OLD_HEAD: usize = 4;
 const BUNDLE: usize = OLD_HEAD + BLOCK + 3;
 
 const LIST: usize = 2;
+
+// The bytes of a bundle with a second old entry, and a list of no digests for each.
+const BOTH: usize = BUNDLE + 3 + BLOCK + 2 * LIST;
 
 // The roll of a table of so many rows, at most nine.
 fn rolled(count: u8, table: &[u8; TABLE]) -> [u8; BLOCK] {
@@ -105,32 +109,54 @@ fn listed(roll: &[u8; BLOCK]) -> [u8; BUNDLE + LIST] {
     bundle
 }
 
+// The bundle of two old entries with rolls of one block, and a list of no digests for one row of each.
+fn both(first: &[u8; BLOCK], second: &[u8; BLOCK]) -> [u8; BOTH] {
+    let mut bundle = [0u8; BOTH];
+    octets::copy_at(&mut bundle, 0, &[2, 0, 3, 1]);
+    octets::copy_at(&mut bundle, OLD_HEAD, first);
+    octets::copy_at(&mut bundle, OLD_HEAD + BLOCK, &[1, 3, 1]);
+    octets::copy_at(&mut bundle, OLD_HEAD + BLOCK + 3, second);
+    octets::copy_at(&mut bundle, OLD_HEAD + 2 * BLOCK + 3, &[1, 0, 3]);
+    bundle
+}
+
 // The keeper of key 2 is shown a bundle.
-fn activated(head: Head, table: &[u8; TABLE], bundle: &[u8]) -> Answer {
-    let told = handover::activate(head, table, &rack_of_one(1), &rack_of_one(2), bundle);
+fn shown(head: Head, table: &[u8; TABLE], previous: &[u8], bundle: &[u8]) -> Answer {
+    let told = handover::activate(head, table, previous, &rack_of_one(2), bundle);
     told.answer
 }
 
-// A roll of one row is to come from one of none.
+// It is to take over a roll from a rack first.
+fn activated(identity: [u8; 32], roll: &[u8; BLOCK], previous: &[u8], bundle: &[u8]) -> Answer {
+    let mut table = [0u8; TABLE];
+    let told = prepared(&mut table, identity, roll, previous);
+    shown(told.head, &table, previous, bundle)
+}
+
+// A roll of one row is to come from a roll of none, beside one that has the row and alone.
 pub fn lacking() {
     let legacy = left();
     let identity = legacy.identity;
-    let old = legacy.roll;
+    let none = legacy.roll;
     let mut rows = [0u8; TABLE];
     let keeper = with_ledgers(founded(&mut rows, &rack_of_one(1)), &mut rows, 1);
     let roll = rolled(keeper.count, &rows);
-    let mut table = [0u8; TABLE];
-    let told = prepared(&mut table, identity, &roll, &rack_of_one(1));
-    let answer = activated(told.head, &table, &listed(&old));
-    say::answered(b"an old roll lacking one of our ledgers", answer);
+    let beside = activated(identity, &roll, &rack_of_three(), &both(&none, &roll));
+    say::answered(
+        b"an old roll lacking one of our ledgers, which another has",
+        beside,
+    );
+    let alone = activated(identity, &roll, &rack_of_one(1), &listed(&none));
+    say::answered(
+        b"an old roll lacking one of our ledgers, which no other has",
+        alone,
+    );
 }
 
 pub fn empty() {
     let legacy = left();
     let identity = legacy.identity;
     let roll = legacy.roll;
-    let mut table = [0u8; TABLE];
-    let told = prepared(&mut table, identity, &roll, &rack_of_one(1));
-    let answer = activated(told.head, &table, &bundled(&roll));
+    let answer = activated(identity, &roll, &rack_of_one(1), &bundled(&roll));
     say::answered(b"an empty roll hands over to an empty roll", answer);
 }

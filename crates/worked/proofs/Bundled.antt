@@ -24,7 +24,8 @@ use Rattle.rules.specs.Rows.{is-absent, row-number}
 use Rattle.rules.specs.Finalise.{finalise-statement}
 use Rattle.rules.specs.Bundle.{old-count, old-at, old-roll, new-at, new-count, new-entries}
 use Rattle.rules.specs.Bundle.{two-byte, list-at, added, digests, list-of, blocks-fit, added-fits, bundle-fits}
-use Rattle.rules.specs.Derivation.{some, row-in, no-more, grown as grown-by, row-derived, roll-of, roll-derived, kept-by-some, derived}
+use Rattle.rules.specs.Derivation.{some, row-in, no-more, grown as grown-by, counted-height, counted-tail, row-derived, roll-of}
+use Rattle.rules.specs.Derivation.{roll-derived, has-row, had-elsewhere, kept-by-some, derived}
 use Rattle.rules.specs.Activate.{racks-differ, bundle-tests, handover-tests, activating}
 use Rattle.rules.specs.Check.{old-statement}
 use Rattle.safety.specs.Calls.{lent, outcome-of}
@@ -127,9 +128,8 @@ module _ {p : Page} (k : Kept p) where
   unfolding row-derived
   row-derives s n h t =
       (λ i.
-      not (is-absent (row-there i))
-      && eqb (height-of (p .table) (row-number (row-there i)) + n) (grown-kept .height-is i)
-      && same (grown-by (tail-of (p .table) (row-number (row-there i))) s n) (grown-kept .tail-is i))
+      eqb (counted-height (roll-on p) (row-there i) + n) (grown-kept .height-is i)
+      && same (grown-by (counted-tail (roll-on p) (row-there i)) s n) (grown-kept .tail-is i))
       ∙ (λ i. eqb (k .height-is i + n) 1 && same (grown-by (k .tail-is i) s n) new-tail)
       ∙ (λ i. eqb (h i) 1 && same (t i) new-tail)
       ∙ same-refl new-tail
@@ -155,20 +155,35 @@ third-derives =
     (λ i. 0 + one-added i)
     ((λ i. grown-by no-digest (entry-added i) (one-added i)) ∙ tail-grows)
 
+-- both old rolls have the row
+first-has : has-row (roll-on grown) bundle 0 0 ≡ true
+first-has = (λ i. not (is-absent (row-in (cut-there grown-kept 0 first-roll i) (roll-on grown) 0))) ∙ (λ i. not (is-absent (row-there grown-kept i)))
+
+third-has : has-row (roll-on grown) bundle 0 1 ≡ true
+third-has = (λ i. not (is-absent (row-in (cut-there young-kept 1 third-roll i) (roll-on grown) 0))) ∙ (λ i. not (is-absent (row-there young-kept i)))
+
+had-so : (i : ℕ) → has-row (roll-on grown) bundle 0 i ≡ true → had-elsewhere (roll-on grown) bundle i ≡ true
+unfolding had-elsewhere
+had-so i e =
+    each-one (λ r. has-row (roll-on grown) bundle r i || some (λ j. not (eqb j i) && has-row (roll-on grown) bundle r j) (old-count bundle))
+    (λ k. e k || some (λ j. not (eqb j i) && has-row (roll-on grown) bundle 0 j) (old-count bundle))
+
 first-keeps : kept-by-some (roll-on grown) bundle 0 ≡ true
 unfolding kept-by-some
 first-keeps =
-    let test : ℕ → Bool = λ i. not (is-absent (row-in (roll-of bundle i) (roll-on grown) 0)) && eqb (added bundle (list-of 1 i 0)) 0 in
-    let there : row-in (roll-of bundle 0) (roll-on grown) 0 ≡ At 0 =
-    (λ i. row-in (cut-there grown-kept 0 first-roll i) (roll-on grown) 0) ∙ row-there grown-kept in
-    ap (some test) two-old ∙ some-first test (λ i. not (is-absent (there i)) && eqb (none-added i) 0)
+    let test : ℕ → Bool = λ i. has-row (roll-on grown) bundle 0 i && eqb (added bundle (list-of 1 i 0)) 0 in
+    ap (some test) two-old ∙ some-first test (λ i. first-has i && eqb (none-added i) 0)
 
 derived-so : derived (roll-on grown) bundle ≡ true
 unfolding derived
 derived-so =
-    (λ i. each (roll-derived (roll-on grown) bundle) (two-old i) && each (kept-by-some (roll-on grown) bundle) 1)
+    (λ i.
+    each (roll-derived (roll-on grown) bundle) (two-old i)
+    && each (had-elsewhere (roll-on grown) bundle) (two-old i)
+    && each (kept-by-some (roll-on grown) bundle) 1)
     ∙ (λ i.
     each-two (roll-derived (roll-on grown) bundle) first-derives third-derives i
+    && each-two (had-elsewhere (roll-on grown) bundle) (had-so 0 first-has) (had-so 1 third-has) i
     && each-one (kept-by-some (roll-on grown) bundle) first-keeps i)
 
 -- Activate

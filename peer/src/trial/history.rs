@@ -167,7 +167,7 @@ fn good_member(rack: &[u8], key: &[u8; 32]) -> bool {
     (0..rack[0]).any(|position| key_at(rack, position) == Some(*key))
 }
 
-/// The highest rows of all rolls handed to the same heir, or just one of these rolls.
+/// The highest rows of all rolls handed to the same heir, also those that some of them lack, or just one of these rolls.
 fn propose(world: &World, seed: &Handed, prng: &mut Prng) -> Vec<Row> {
     let mut rows = seed.rows.clone();
     if prng.chance(1, 3) {
@@ -178,7 +178,11 @@ fn propose(world: &World, seed: &Handed, prng: &mut Prng) -> Vec<Row> {
         for row in rows.iter_mut().filter(|row| row.label == other.label && row.height < other.height) {
             *row = *other;
         }
+        if rows.iter().all(|row| row.label != other.label) {
+            rows.push(*other);
+        }
     }
+    rows.sort_by_key(|row| row.label);
     rows
 }
 

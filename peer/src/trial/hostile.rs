@@ -1,10 +1,11 @@
-//! This file holds hostile histories aimed at 01's slips; sound rules refuse at the decisive step, broken ones are caught.
+//! This file holds hostile histories aimed at the slips; sound rules refuse at the decisive step, broken ones are caught.
 
 use super::good;
 use super::pairing::Pairing;
 use super::prng::Prng;
 use super::world::{part, World};
 use crate::call::Call;
+use crate::record::ACTIVE;
 use crate::roll::in_blocks;
 use crate::row::Row;
 
@@ -14,6 +15,8 @@ pub fn run(pairing: &mut Pairing, prng: &mut Prng) {
     one_finalised_of_three(pairing, prng, 0);
     one_finalised_of_three(pairing, prng, 1);
     lagging_first_old_entry(pairing, prng);
+    missed_new(pairing, prng, 0);
+    missed_new(pairing, prng, 1);
     second_heir(pairing, prng, true);
     second_heir(pairing, prng, false);
     replayed_reading(pairing, prng);
@@ -25,13 +28,20 @@ const SECOND: [u8; 32] = [0xbb; 32];
 
 /// A founded rack of `count` keepers, 0 to count - 1, all with the ledger; keepers stand in the rack in this order.
 fn founded(world: &mut World, prng: &mut Prng, count: usize) -> Vec<u8> {
+    founded_but(world, prng, count, None)
+}
+
+/// The same, but for a keeper that misses the New call.
+fn founded_but(world: &mut World, prng: &mut Prng, count: usize, missed: Option<usize>) -> Vec<u8> {
     let keys = good::keys(prng, count);
     let rack = world.rack(&keys);
     for key in keys {
         let keeper = world.wake(key);
         let call = Call::Initialise { identity: [0; 32], roll: vec![], previous: vec![], own: rack.clone() };
         world.call(keeper, &call);
-        world.call(keeper, &Call::New { label: LABEL });
+        if Some(keeper) != missed {
+            world.call(keeper, &Call::New { label: LABEL });
+        }
     }
     rack
 }
@@ -71,8 +81,8 @@ fn one_signer_twice(pairing: &mut Pairing, prng: &mut Prng) {
 }
 
 /// A rack of three of which keeper 0 lags, a verdict for the first entry by the others, and a lone heir, keeper 3.
-fn lagging(world: &mut World, prng: &mut Prng) -> (Vec<u8>, Vec<u8>) {
-    let previous = founded(world, prng, 3);
+fn lagging(world: &mut World, prng: &mut Prng, missed: Option<usize>) -> (Vec<u8>, Vec<u8>) {
+    let previous = founded_but(world, prng, 3, missed);
     let statement = append(world, 1, FIRST);
     append(world, 2, FIRST);
     judge(world, &statement, &[1, 2]);
@@ -115,7 +125,7 @@ fn rows_of(world: &World, keeper: usize) -> Vec<Row> {
 /// or keeper 1's, who never signed it ("testing the first old entry only").
 fn one_finalised_of_three(pairing: &mut Pairing, prng: &mut Prng, second: u8) {
     let mut world = World::new(pairing, true);
-    let (previous, own) = lagging(&mut world, prng);
+    let (previous, own) = lagging(&mut world, prng, None);
     world.call(0, &Call::Finalise { next: own.clone() });
     let roll = rows_of(&world, 0);
     inherit(&mut world, 3, (&previous, &own), &roll, &[(0, roll.clone()), (second, roll.clone())]);
@@ -125,11 +135,27 @@ fn one_finalised_of_three(pairing: &mut Pairing, prng: &mut Prng, second: u8) {
 /// "Activating on the keeper's own roll alone, or testing the first old entry only": the second old roll is further.
 fn lagging_first_old_entry(pairing: &mut Pairing, prng: &mut Prng) {
     let mut world = World::new(pairing, true);
-    let (previous, own) = lagging(&mut world, prng);
+    let (previous, own) = lagging(&mut world, prng, None);
     world.call(0, &Call::Finalise { next: own.clone() });
     world.call(1, &Call::Finalise { next: own.clone() });
     let (roll, further) = (rows_of(&world, 0), rows_of(&world, 1));
     inherit(&mut world, 3, (&previous, &own), &roll, &[(0, roll.clone()), (1, further)]);
+    contradict(&mut world, 3, SECOND);
+}
+
+/// M-101: keeper 0 "had missed the New call". The heir takes keeper 1's roll and is accepted, or keeper 0's, in which the
+/// ledger is lost, and must not be.
+fn missed_new(pairing: &mut Pairing, prng: &mut Prng, taken: usize) {
+    let mut world = World::new(pairing, true);
+    let (previous, own) = lagging(&mut world, prng, Some(0));
+    world.call(0, &Call::Finalise { next: own.clone() });
+    world.call(1, &Call::Finalise { next: own.clone() });
+    let rolls = [rows_of(&world, 0), rows_of(&world, 1)];
+    let old = [(0, rolls[0].clone()), (1, rolls[1].clone())];
+    inherit(&mut world, 3, (&previous, &own), &rolls[taken], &old);
+    let active = world.keepers[3].head.status == ACTIVE;
+    world.pairing.ask(active == (taken == 1), "the heir is active with the roll that has the ledger, and only with it");
+    world.call(3, &Call::New { label: LABEL });
     contradict(&mut world, 3, SECOND);
 }
 

@@ -2,6 +2,7 @@
 
 use super::bundles;
 use super::good;
+use super::missing;
 use super::pairing::Pairing;
 use super::prng::Prng;
 use crate::call::{Call, Reply};
@@ -21,15 +22,17 @@ pub fn run(pairing: &mut Pairing, prng: &mut Prng) {
         statements(pairing, prng, kind);
     }
     bundles::run(pairing, prng);
+    missing::run(pairing, prng);
 }
 
 /// One damaged layout of a kind chosen by chance.
 pub fn run_any(pairing: &mut Pairing, prng: &mut Prng) {
-    match prng.below(6) {
+    match prng.below(7) {
         0 => any_rack(pairing, prng),
         1 => any_roll(pairing, prng),
         2 => any_statement(pairing, prng),
         3 => bundles::any_signers(pairing, prng),
+        4 => missing::run_any(pairing, prng),
         _ => bundles::any_bundle(pairing, prng),
     }
 }

@@ -1,12 +1,14 @@
-//! This file holds 01's numbers to try, all of them, each as calls with the answer that 01 names.
+//! This file holds 01's numbers to try, all of them, each as calls with the answer that 01, or M-101, names.
 
 use super::good;
+use super::missing::{self, Carried};
 use super::pairing::Pairing;
 use super::prng::Prng;
 use super::scene::{Scene, Sizes};
 use crate::call::{AskVerdict, Call, Lent, Reply};
 use crate::rack::Rack;
 use crate::record::{ACTIVE, FINALISED};
+use crate::refusals::Refusal;
 use crate::row::{Row, TOP};
 use crate::statement::{self, Statement, KIND_READ};
 
@@ -24,7 +26,8 @@ pub fn run(pairing: &mut Pairing, prng: &mut Prng) {
     second_finalise(pairing, prng);
     three_signers(pairing, prng);
     roll_alone(pairing, prng);
-    lacking_ledger(pairing, prng);
+    ledger_another_has(pairing, prng);
+    ledger_no_other_has(pairing, prng);
     empty_handover(pairing, prng);
 }
 
@@ -225,15 +228,27 @@ fn roll_alone(pairing: &mut Pairing, prng: &mut Prng) {
     pairing.expect("roll without previous rack", &mut good::woken(keys[1], 129), &call, 8);
 }
 
-/// "an old roll lacking one of our ledgers: 20"
-fn lacking_ledger(pairing: &mut Pairing, prng: &mut Prng) {
-    let sizes = Sizes { previous: 3, own: 3, old: 2, new: 2, rows: 3 };
+/// Three ledgers of two entries; the second old roll lacks one of them, and the first stands to that one as named.
+fn lacking_ledger(pairing: &mut Pairing, prng: &mut Prng, first: Option<usize>, number: Refusal) {
     for lacking in 0..3 {
-        let mut scene = Scene::good(prng, sizes, 2);
+        let mut rows = vec![Carried { steps: 2, seen: vec![Some(2), Some(1)] }; 3];
+        let scene = missing::scene(prng, &rows);
         pairing.expect("a good handover", &mut scene.lent(0), &scene.activate(), 0);
-        scene.old[1].rows.remove(lacking);
-        pairing.expect("an old roll lacking one", &mut scene.lent(0), &scene.activate(), 20);
+        rows[lacking].seen = vec![first, None];
+        let scene = missing::scene(prng, &rows);
+        pairing.expect("an old roll lacking one", &mut scene.lent(0), &scene.activate(), number);
     }
+}
+
+/// "an old roll lacking one of our ledgers" is by M-101 "accepted when another old roll has it", and the rest holds.
+fn ledger_another_has(pairing: &mut Pairing, prng: &mut Prng) {
+    lacking_ledger(pairing, prng, Some(2), 0);
+    lacking_ledger(pairing, prng, Some(1), 20);
+}
+
+/// "otherwise 20"
+fn ledger_no_other_has(pairing: &mut Pairing, prng: &mut Prng) {
+    lacking_ledger(pairing, prng, None, 20);
 }
 
 /// "An empty roll hands over to an empty roll."

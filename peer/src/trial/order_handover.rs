@@ -50,7 +50,17 @@ const ACTIVATE: &[&[&str]] = &[
     &["19 new 0"],
     &["17 new 1"],
     &["19 new 1"],
-    &["20 label missing", "20 label more", "20 height", "20 tail", "20 digest more", "20 none adds none"],
+    &[
+        "20 missing in all",
+        "20 missing, digest",
+        "20 missing, fewer",
+        "20 missing, none adds none",
+        "20 label more",
+        "20 height",
+        "20 tail",
+        "20 digest more",
+        "20 none adds none",
+    ],
 ];
 const BYTES_TO_CHECK: &[&[&str]] = &[
     &["1 short", "1 none"],
@@ -114,9 +124,11 @@ fn damaged_scene(prng: &mut Prng, damages: &Damages, number_above: usize) -> (Sc
     (scene, lent)
 }
 
-/// The keeper's roll goes two digests beyond what the old rolls held; the first old roll goes along, the others lag.
+/// The keeper's roll goes two digests beyond what the old rolls held; the first old roll goes along, the others lag, and the
+/// last of them lacks the second row in half of the cases (M-101).
 fn lag(prng: &mut Prng, damages: &Damages, scene: &mut Scene) -> Vec<Row> {
     let mut ours = scene.rows.clone();
+    let none_adds_none = damages.has("20 none adds none") || damages.has("20 missing, none adds none");
     for (place, row) in ours.iter_mut().enumerate() {
         let digests: [[u8; 32]; 2] = [prng.array(), prng.array()];
         // Labels below ff…, so that one more finds room after them.
@@ -125,19 +137,34 @@ fn lag(prng: &mut Prng, damages: &Damages, scene: &mut Scene) -> Vec<Row> {
         let tail = appended(&appended(&base.tail, &digests[0]), &digests[1]);
         *row = Row { tail, height: 2, ..base };
         for (number, part) in scene.old.iter_mut().enumerate() {
-            let along = number == 0 && !(damages.has("20 none adds none") && place == 1);
+            let along = number == 0 && !(none_adds_none && place == 1);
             part.rows[place] = if along { *row } else { base };
             part.added[place] = if along { Vec::new() } else { digests.to_vec() };
         }
+    }
+    if prng.chance(1, 2) {
+        scene.old[2].rows.remove(1);
     }
     ours
 }
 
 fn not_derived(prng: &mut Prng, damages: &Damages, scene: &mut Scene) {
+    if damages.has("20 missing in all") {
+        let label = scene.rows[1].label;
+        scene.old.iter_mut().for_each(|part| part.rows.retain(|row| row.label != label));
+    }
     let part = &mut scene.old[1];
     for name in damages.0 {
         match *name {
-            "20 label missing" => drop(part.rows.remove(1)),
+            "20 missing, none adds none" => drop(part.rows.remove(1)),
+            "20 missing, digest" => {
+                part.rows.remove(1);
+                part.added[1][0] = prng.array();
+            }
+            "20 missing, fewer" => {
+                part.rows.remove(1);
+                part.added[1].pop();
+            }
             "20 label more" => {
                 let row = Row { label: [0xff; 16], ..part.rows[0] };
                 part.rows.push(row);

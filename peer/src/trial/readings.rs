@@ -1,6 +1,7 @@
-//! This file holds, for each reading of a doubtful sentence of 01, the input that tells the readings apart, with the answer taken.
+//! This file holds, for each reading of a doubtful sentence of 01 or 02, the input that tells the readings apart, with the answer taken.
 
 use super::good;
+use super::missing::{self, Carried};
 use super::pairing::Pairing;
 use super::prng::Prng;
 use super::scene::{Scene, Sizes};
@@ -25,6 +26,7 @@ pub fn run(pairing: &mut Pairing, prng: &mut Prng) {
     repeats(pairing, prng);
     bundles(pairing, prng);
     handovers(pairing, prng);
+    missing_rows(pairing, prng);
     verdicts(pairing, prng);
 }
 
@@ -291,6 +293,35 @@ fn handovers(pairing: &mut Pairing, prng: &mut Prng) {
         pairing.expect("C28", &mut lent, &scene.bytes_to_check(list, 1), 0);
         pairing.ask(lent.area == stated, "C28: the statement of an entry's marks");
     }
+}
+
+/// E1 to E5: a row of so many digests, how many of them each old roll has seen, if it has the row, and the answer.
+fn missing_rows(pairing: &mut Pairing, prng: &mut Prng) {
+    let cases: [(&str, usize, &[Option<usize>], Refusal); 9] = [
+        ("E2", 1, &[Some(0), None], 20),
+        ("E2", 1, &[Some(1), None], 0),
+        ("E3", 0, &[None, Some(0)], 0),
+        ("E3", 2, &[None, Some(2)], 0),
+        ("E4", 0, &[None, None], 20),
+        ("E4", 1, &[None, None], 20),
+        ("E5", 0, &[None], 20),
+        ("E5", 1, &[None], 20),
+        ("E5", 1, &[Some(1)], 0),
+    ];
+    for (name, steps, seen, number) in cases {
+        let scene = missing::scene(prng, &[Carried { steps, seen: seen.to_vec() }]);
+        pairing.expect(name, &mut scene.lent(0), &scene.activate(), number);
+    }
+    let good = missing::scene(prng, &[Carried { steps: 1, seen: vec![Some(1), None] }]);
+    let mut more = good.clone();
+    more.old[1].rows = vec![Row { label: [0xfe; 16], ..Row::ZERO }];
+    pairing.expect("E1", &mut more.lent(0), &more.activate(), 20);
+    let mut other = good.clone();
+    other.old[1].added[0][0][0] ^= 1;
+    pairing.expect("E3", &mut other.lent(0), &other.activate(), 20);
+    let mut uncounted = good.clone();
+    uncounted.old[1].added.clear();
+    pairing.expect("E3", &mut uncounted.lent(0), &uncounted.activate(), 22);
 }
 
 /// C8, C20, C21, C29 to C31 at the desk.

@@ -193,11 +193,12 @@ impl<'p, 'a> World<'p, 'a> {
     }
 
     fn old_part(&self, position: u8, old_rows: &[Row], ours: &[Row]) -> OldPart {
-        let way = |our: &Row| match old_rows.iter().find(|row| row.label == our.label) {
-            Some(old) => self.way(old, our),
-            None => Vec::new(),
+        // M-101: a row missing "shall count as height 0 with the zero tail".
+        let held = |our: &Row| {
+            let zero = Row { label: our.label, ..Row::ZERO };
+            old_rows.iter().find(|row| row.label == our.label).copied().unwrap_or(zero)
         };
-        let added = ours.iter().map(way).collect();
+        let added = ours.iter().map(|our| self.way(&held(our), our)).collect();
         OldPart { position, marks: 0, rows: old_rows.to_vec(), number_of_blocks: None, blocks: None, added }
     }
 

@@ -1,14 +1,25 @@
 -- `derivation::old::row_derived` meets its contract. Assumes nothing.
 use borrow.Author.Needs.{needs}
-use mathlib.Core.Path.{_≡_, sym, ap, _∙_}
+use mathlib.Core.Path.{_≡_, sym, ap, ap₂, _∙_}
+use mathlib.Core.Bool.{Bool, _&&_}
+use mathlib.Core.List.{List}
+use Prim.Native.Nat.{ℕ, _+_, _<_, _/_}
 use denote.Ref.{now}
-use Rattle.rows.specs.Row.{label-of}
+use lib.ListN.{length}
+use lib.Dec.{eqb}
+use Rattle.octets.specs.Strings.{same}
+use Rattle.rows.specs.Sizes.{most-rows}
+use Rattle.rows.specs.Row.{label-of, tail-of, height-of}
 use Rattle.rows.specs.Search.{find}
 use Rattle.rows.specs.declared.Found.the-variants.{At, Absent}
-use Rattle.rules.specs.Derivation.{row-derived}
+use Rattle.rules.specs.Derivation.{grown, row-derived}
 use Rattle.derivation.proofs.Growths.{found-within}
 use Rattle.derivation.proofs.old.row_derived.Statement.{statement}
 use Rattle.derivation.proofs.old.row_derived.Tie as tie
+
+-- the row that is found lies within the table
+within : (c : tie.After-known-told) → c .before .found .given .0 .0 < most-rows
+within c = found-within _ _ _ (c .before .found .given .0 .0) (sym (c .before .before .before .find .ensures) ∙ c .before .found .given .1)
 
 label-at-requires : tie.Need-label-at-requires
 label-at-requires c κs = search needs
@@ -19,31 +30,46 @@ find-requires c κs = search needs
 enum-known-found : tie.Need-enum-known-found
 enum-known-found c = search needs
 
+height-at-requires : tie.Need-height-at-requires
+height-at-requires c κs = (within c, search needs)
+
+tail-at-requires : tie.Need-tail-at-requires
+tail-at-requires c κs = (within (c .before), search needs)
+
 is-grown-requires : tie.Need-is-grown-requires
-is-grown-requires c κs =
-    let start = c .before .before .before .before .before .before .before .before in
-    let q = c .before .found .given in
-    (start .pre .0, found-within _ _ _ (q .0 .0) (sym (c .before .before .before .find .ensures) ∙ q .1), start .pre .1, start .pre .2)
+is-grown-requires c κs = search needs
 
 enum-told : tie.Need-enum-told
 enum-told c = search needs
 
+is-grown-requires-2 : tie.Need-is-grown-requires-2
+is-grown-requires-2 c κs = search needs
+
 returns : tie.Need-returns
 unfolding row-derived
 returns c n =
-    let a = c .before .before .before .before .before .before .before .before .before .args in
-    let q = c .before .before .found .given in
-    let e : find (a .size) (now (a .old)) (label-of (now (a .ours)) (a .r)) ≡ At (q .0 .0) =
-    ap (find (a .size) (now (a .old))) (sym (c .before .before .before .before .before .label-at .ensures)) ∙ sym (c .before .before .before .before .find .ensures) ∙ q .1 in
-    rw e (c .is-grown .ensures)
+    let found = c .before .before .before .before in
+    let a = found .before .before .before .before .before .before .before .args in
+    let s = now (a .s) in
+    let ours = now (a .ours) in
+    let k = length s / 32 in
+    let e : find (a .size) (now (a .old)) (label-of ours (a .r)) ≡ At (found .found .given .0 .0) =
+    ap (find (a .size) (now (a .old))) (sym (found .before .before .before .label-at .ensures))
+    ∙ sym (found .before .before .find .ensures) ∙ found .found .given .1 in
+    rw e
+    (c .is-grown .ensures
+    ∙ ap₂ (λ (h : ℕ) (t : List ℕ). eqb (h + k) (height-of ours (a .r)) && same (grown t s k) (tail-of ours (a .r)))
+    (c .before .before .height-at .ensures) (c .before .tail-at .ensures))
 
 returns-2 : tie.Need-returns-2
 unfolding row-derived
 returns-2 c n =
-    let a = c .before .before .before .before .before .before .before .args in
+    let told = c .before in
+    let a = told .before .before .before .before .before .before .before .args in
     let e : find (a .size) (now (a .old)) (label-of (now (a .ours)) (a .r)) ≡ Absent =
-    ap (find (a .size) (now (a .old))) (sym (c .before .before .before .label-at .ensures)) ∙ sym (c .before .before .find .ensures) ∙ c .enum-told .given .1 in
-    rw e
+    ap (find (a .size) (now (a .old))) (sym (told .before .before .before .label-at .ensures))
+    ∙ sym (told .before .before .find .ensures) ∙ told .enum-told .given .1 in
+    rw e (c .is-grown2 .ensures)
 
 pub row-derived-spec : {M : Type 1} → statement M
 row-derived-spec =
@@ -52,7 +78,10 @@ row-derived-spec =
     label-at-requires
     find-requires
     enum-known-found
+    height-at-requires
+    tail-at-requires
     is-grown-requires
     enum-told
+    is-grown-requires-2
     returns
     returns-2)
