@@ -1,4 +1,7 @@
 -- The laws that the hash library's proofs cite, by what they are about.
+pub mod Bitwise
+pub mod Rotations
+pub mod Mixing
 pub mod Stored
 pub mod Table
 pub mod Absorbed
