@@ -11,4 +11,6 @@ pub mod Padded
 pub mod Promised
 pub mod Rounds
 pub mod Schedule
+pub mod Steps
+pub mod Ring
 pub mod Turns

@@ -1,6 +1,6 @@
 -- How the library goes through the rounds. M-102: "Keep sixteen schedule words, overwriting the oldest." Word t stands in place t mod 16. A turn is
--- round t, and then word t + 16 in the place of word t; the last sixteen rounds read the words that are left. `proofs/Turns.antt` shows that this is
--- the schedule and the rounds of FIPS 180-4.
+-- round t, and then word t + 16 in the place of word t; the last sixteen rounds read the words that are left. That this is the schedule and the
+-- rounds of FIPS 180-4 is shown in `proofs/Ring.antt` and `proofs/Turns.antt`.
 use mathlib.Core.List.{List}
 use Prim.Native.Nat.{ℕ, zero, suc, _+_, _%_}
 use lib.ListN.{getD, set}

@@ -40,7 +40,7 @@ fn one_turn(s: Working, w: &mut [u32], k: &[u32], t: usize) -> Working
     next
 }
 
-// Sixteen turns from a multiple of sixteen on: the optimiser then knows each place, and the working variables need no moves.
+// Sixteen turns. They begin at a multiple of sixteen, so the optimiser knows each place, and the working variables need no moves.
 fn sixteen_turns(s: Working, w: &mut [u32], k: &[u32], t: usize) -> Working
     requires { ⌜ (t + 16 ≤ 48) × (length (now w) ≡ 16) × (now k ≡ constants) ⌝ }
     ensures { λ r. ⌜ stage (now (w .exit)) r ≡ steps (turn SHA-256) (stage (now (w .entry)) s) t 16 ⌝ }
@@ -63,7 +63,7 @@ fn sixteen_turns(s: Working, w: &mut [u32], k: &[u32], t: usize) -> Working
     one_turn(s15, w, k, t + 15)
 }
 
-// The rounds that leave a word, and the words that they leave.
+// The first forty-eight rounds, each of which leaves a word for a later one.
 pub fn first_rounds(s: Working, w: &mut [u32], k: &[u32]) -> Working
     requires { ⌜ (length (now w) ≡ 16) × (now k ≡ constants) ⌝ }
     ensures { λ r. ⌜ stage (now (w .exit)) r ≡ steps (turn SHA-256) (stage (now (w .entry)) s) 0 48 ⌝ }
@@ -87,7 +87,7 @@ fn four_rounds(s: Working, w: &[u32], k: &[u32], t: usize) -> Working
     round_at(s3, w, k, t + 3)
 }
 
-// The rounds that read the last sixteen words.
+// The last sixteen rounds.
 pub fn last_rounds(s: Working, w: &[u32], k: &[u32]) -> Working
     requires { ⌜ (length (now w) ≡ 16) × (now k ≡ constants) ⌝ }
     ensures { λ r. ⌜ eight r ≡ steps (reads SHA-256 (now (w .entry))) (eight s) 48 16 ⌝ }

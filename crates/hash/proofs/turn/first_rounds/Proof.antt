@@ -7,7 +7,7 @@ use borrow.Author.Needs.{needs}
 use lib.ListN.{length}
 use Rattle.hash.specs.Sha256.{SHA-256}
 use Rattle.hash.specs.Turns.{stage, turn, steps}
-use Rattle.hash.proofs.Turns.{steps-then}
+use Rattle.hash.proofs.Steps.{steps-then}
 use Rattle.hash.proofs.turn.first_rounds.Statement.{statement}
 use Rattle.hash.proofs.turn.first_rounds.Tie as tie
 

@@ -5,7 +5,7 @@ use borrow.Author.Needs.{needs}
 use Rattle.hash.specs.Rounds.{Eight}
 use Rattle.hash.specs.Sha256.{SHA-256}
 use Rattle.hash.specs.Turns.{reads}
-use Rattle.hash.proofs.Turns.{first-step, step-then}
+use Rattle.hash.proofs.Steps.{first-step, step-then}
 use Rattle.hash.proofs.turn.four_rounds.Statement.{statement}
 use Rattle.hash.proofs.turn.four_rounds.Tie as tie
 

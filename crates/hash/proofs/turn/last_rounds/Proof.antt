@@ -5,7 +5,7 @@ use native.Mathlib.Omega.{arith}
 use borrow.Author.Needs.{needs}
 use Rattle.hash.specs.Sha256.{SHA-256}
 use Rattle.hash.specs.Turns.{eight, reads, steps}
-use Rattle.hash.proofs.Turns.{steps-then}
+use Rattle.hash.proofs.Steps.{steps-then}
 use Rattle.hash.proofs.turn.last_rounds.Statement.{statement}
 use Rattle.hash.proofs.turn.last_rounds.Tie as tie
 

@@ -9,7 +9,7 @@ use mir.Val.{Fits}
 use borrow.Author.Tests.{ltb-true}
 use Rattle.hash.specs.Sha256.{SHA-256}
 use Rattle.hash.specs.Turns.{Stage, turn}
-use Rattle.hash.proofs.Turns.{first-step, step-then}
+use Rattle.hash.proofs.Steps.{first-step, step-then}
 use Rattle.hash.proofs.turn.sixteen_turns.Statement.{statement}
 use Rattle.hash.proofs.turn.sixteen_turns.Tie as tie
 
