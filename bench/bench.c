@@ -1,15 +1,20 @@
-/* Measures SHA-256 by the library, by plain C and by OpenSSL, in turn.
+/* Measures SHA-256 by the library, by plain C, by mbedTLS, libsodium and nettle and by OpenSSL, in turn.
    Prints a line 'NAME LENGTH SPEED' for each measurement, in MB/s; bench/run makes the table. */
+#define _POSIX_C_SOURCE 200809L
 #define OPENSSL_SUPPRESS_DEPRECATED
+#include <mbedtls/sha256.h>
+#include <mbedtls/version.h>
+#include <nettle/sha2.h>
 #include <openssl/crypto.h>
 #include <openssl/sha.h>
+#include <sodium.h>
 #include <stdint.h>
 #include <stdio.h>
 #include <stdlib.h>
 #include <string.h>
 #include <time.h>
 
-enum { DIGEST = 32, LONGEST = 65536, ROUNDS = 10, MEASURED_BYTES = 1 << 20 };
+enum { DIGEST = 32, LONGEST = 65536, ROUNDS = 100, MEASURED_BYTES = 1 << 17 };
 
 static const size_t lengths[] = {64, 1024, LONGEST};
 
@@ -33,6 +38,31 @@ static void library_sha256(const uint8_t *message, size_t length, uint8_t *diges
         die("the library refused a message");
 }
 
+/* The call that says whether it succeeded has another name in mbedTLS 2. */
+#if MBEDTLS_VERSION_MAJOR < 3
+#define mbedtls_sha256 mbedtls_sha256_ret
+#endif
+
+static void mbedtls_hash(const uint8_t *message, size_t length, uint8_t *digest)
+{
+    if (mbedtls_sha256(message, length, digest, 0) != 0)
+        die("mbedTLS failed");
+}
+
+static void sodium_hash(const uint8_t *message, size_t length, uint8_t *digest)
+{
+    if (crypto_hash_sha256(digest, message, length) != 0)
+        die("libsodium failed");
+}
+
+static void nettle_hash(const uint8_t *message, size_t length, uint8_t *digest)
+{
+    struct sha256_ctx context;
+    sha256_init(&context);
+    sha256_update(&context, length, message);
+    sha256_digest(&context, DIGEST, digest);
+}
+
 /* OpenSSL's deprecated calls, as on a short message they are faster than EVP. */
 static void openssl_sha256(const uint8_t *message, size_t length, uint8_t *digest)
 {
@@ -41,14 +71,14 @@ static void openssl_sha256(const uint8_t *message, size_t length, uint8_t *diges
         die("OpenSSL failed");
 }
 
-/* OpenSSL's second capability word is CPUID leaf 7; bit 29 of it stands for the SHA instructions. */
-static const char *openssl_name(void)
+/* Whether OpenSSL and nettle use SHA instructions: OpenSSL's second capability word is CPUID leaf 7, masked; bit 29 of it stands for them. bench/run masks both or none. */
+static int with_sha_instructions(void)
 {
     unsigned long long leaf7;
     const char *settings = OPENSSL_info(OPENSSL_INFO_CPU_SETTINGS);
     if (settings == NULL || sscanf(settings, "OPENSSL_ia32cap=%*x:%llx", &leaf7) != 1)
         die("OpenSSL does not say which instructions it uses");
-    return leaf7 >> 29 & 1 ? "openssl-sha" : "openssl-plain";
+    return leaf7 >> 29 & 1;
 }
 
 static void fill(uint8_t *message, size_t length)
@@ -73,10 +103,11 @@ static void compare_digests(const struct candidate *candidates, size_t count, co
     }
 }
 
+/* Processor time, so that other work on the machine is not counted. */
 static double seconds(void)
 {
     struct timespec now;
-    clock_gettime(CLOCK_MONOTONIC, &now);
+    clock_gettime(CLOCK_THREAD_CPUTIME_ID, &now);
     return (double)now.tv_sec + 1e-9 * (double)now.tv_nsec;
 }
 
@@ -93,10 +124,14 @@ int main(void)
 {
     static uint8_t message[LONGEST];
     fill(message, LONGEST);
+    int sha = with_sha_instructions();
     const struct candidate candidates[] = {
         {"library", library_sha256},
         {"portable", portable_sha256},
-        {openssl_name(), openssl_sha256},
+        {"mbedtls", mbedtls_hash},
+        {"sodium", sodium_hash},
+        {sha ? "nettle-sha" : "nettle-plain", nettle_hash},
+        {sha ? "openssl-sha" : "openssl-plain", openssl_sha256},
     };
     size_t count = sizeof candidates / sizeof *candidates;
 

@@ -139,6 +139,7 @@ static const struct trial {
     enum state state;
     void (*call)(void), (*hashing)(void);
 } trials[] = {
+    {"sha256", ACTIVE, hash_rack, hash_rack},
     {"wake", ACTIVE, wake, hash_nothing},
     {"initialise-founding", BLANK, found, hash_founding},
     {"initialise-joining", BLANK, prepare, hash_preparing},

@@ -1,18 +1,11 @@
--- Laws of the rounds: one more round, and that n rounds read n words. Assumes nothing.
+-- A law of the rounds: n rounds read n words. Assumes nothing.
 use mathlib.Core.Path.{_≡_, refl, ap₂}
 use mathlib.Core.List.{List}
-use Prim.Native.Nat.{ℕ, zero, suc, _+_, _<_}
+use Prim.Native.Nat.{ℕ, zero, suc, _<_}
 use native.Mathlib.Nat.{lt-trans, lt-suc-self}
-use native.Mathlib.Numerals.{add-one}
 use lib.ListN.{getD}
 use Rattle.hash.specs.Family.{Family}
 use Rattle.hash.specs.Rounds.{Eight, round, rounds}
-
-pub rounds-more :
-    (F : Family) (W : List ℕ) (s : Eight) (n : ℕ)
-    → rounds F W s (n + 1) ≡ round F (rounds F W s n) (getD (F .K) n 0) (getD W n 0)
-unfolding rounds
-rounds-more F W s n = rw (add-one n)
 
 -- schedules that agree on the first n words lead n rounds to the same variables
 pub rounds-agree :

@@ -1,11 +1,12 @@
--- How the library goes through the rounds: it keeps the schedule as far as it is filled beside the working variables, and a turn fills one word and
--- reads it in the round of the same number. `proofs/Turns.antt` shows that turns are the schedule and the rounds of FIPS 180-4.
+-- How the library goes through the rounds. M-102: "Keep sixteen schedule words, overwriting the oldest." Word t stands in place t mod 16. A turn is
+-- round t, and then word t + 16 in the place of word t; the last sixteen rounds read the words that are left. That this is the schedule and the
+-- rounds of FIPS 180-4 is shown in `proofs/Ring.antt` and `proofs/Turns.antt`.
 use mathlib.Core.List.{List}
-use Prim.Native.Nat.{ℕ, zero, suc, _+_}
+use Prim.Native.Nat.{ℕ, zero, suc, _+_, _%_}
 use lib.ListN.{getD, set}
 use Rattle.hash.specs.declared.round.Working.{Working}
+use Rattle.hash.specs.Words.{plus}
 use Rattle.hash.specs.Family.{Family}
-use Rattle.hash.specs.Schedule.{next-word}
 use Rattle.hash.specs.Rounds.{Eight, round}
 
 -- the code's working variables as those of the standard
@@ -20,15 +21,26 @@ pub record Stage : Type 0 where
 abbrev pub stage : List ℕ → Working → Stage
 stage w s = record { area = w; state = eight s }
 
--- word t is stored, and round t takes it
+-- W_{t+16} = σ₁(W_{t+14}) + W_{t+9} + σ₀(W_{t+1}) + W_t, from the words in the places of R
+unfoldable pub word-after : Family → List ℕ → ℕ → ℕ
+word-after F R t =
+    plus (F .width)
+    (plus (F .width) (plus (F .width) (F .σ₁ (getD R ((t + 14) % 16) 0)) (getD R ((t + 9) % 16) 0)) (F .σ₀ (getD R ((t + 1) % 16) 0)))
+    (getD R (t % 16) 0)
+
+-- round t, with the word in its place
+unfoldable pub reads : Family → List ℕ → Eight → ℕ → Eight
+reads F R s t = round F s (getD (F .K) t 0) (getD R (t % 16) 0)
+
+-- round t reads word t, and word t + 16 goes into its place
 unfoldable pub turn : Family → Stage → ℕ → Stage
 turn F x t =
     record {
-      area = set (x .area) t (next-word F (x .area) t);
-      state = round F (x .state) (getD (F .K) t 0) (next-word F (x .area) t);
+      area = set (x .area) (t % 16) (word-after F (x .area) t);
+      state = reads F (x .area) (x .state) t;
     }
 
--- n turns from t on
-unfoldable pub turns : Family → Stage → ℕ → ℕ → Stage
-turns F x t zero = x
-turns F x t (suc n) = turn F (turns F x t n) (t + n)
+-- n steps from t on
+unfoldable pub steps : {A : Type 0} → (A → ℕ → A) → A → ℕ → ℕ → A
+steps f x t zero = x
+steps f x t (suc n) = f (steps f x t n) (t + n)

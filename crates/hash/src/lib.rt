@@ -3,6 +3,7 @@ mod chunk;
 mod constants;
 mod ending;
 mod round;
+mod turn;
 mod word;
 mod words;
 
@@ -24,7 +25,7 @@ fn digest(message: &[u8]) -> [u8; 32]
     requires { ⌜ length (now message) ≤ longest ⌝ }
     ensures { λ r. ⌜ r ≡ sha256 (now (message .entry)) ⌝ }
 {
-    let mut schedule = [0u32; 64];
+    let mut schedule = [0u32; 16];
     let whole = message.len() / 64;
     let h = absorb(INITIAL, &mut schedule, message, whole);
     let last = ending(&message[64 * whole..], message.len());

@@ -16,7 +16,7 @@ use Rattle.hash.proofs.chunk.absorb.Statement.{statement}
 use Rattle.hash.proofs.chunk.absorb.Tie as tie
 
 abbrev Inv-loop : tie.InvT-loop
-Inv-loop w₀ s count value₀ i₀ w value i = (i ≤ count) × (length w ≡ 64) × (value ≡ absorbed SHA-256 value₀ s i)
+Inv-loop w₀ s count value₀ i₀ w value i = (i ≤ count) × (length w ≡ 16) × (value ≡ absorbed SHA-256 value₀ s i)
 
 abbrev μ-loop : tie.MeasureT-loop
 μ-loop w₀ s count value₀ i₀ w value i = count - i

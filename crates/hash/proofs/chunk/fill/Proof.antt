@@ -1,17 +1,18 @@
 -- `hash::chunk::fill` meets its contract. Assumes nothing.
-use mathlib.Core.Path.{_≡_}
+use mathlib.Core.Path.{_≡_, sym, _∙_}
 use Prim.Native.Nat.{_≤_, _-_}
 use native.Mathlib.Omega.{arith}
 use denote.Ref.{now}
 use borrow.Author.Needs.{needs}
 use lib.ListN.{length-set, length, take}
+use lib.Seq.{take-all}
 use Rattle.hash.proofs.Stored.{words-stored}
 use Rattle.hash.specs.Padding.{words}
 use Rattle.hash.proofs.chunk.fill.Statement.{statement}
 use Rattle.hash.proofs.chunk.fill.Tie as tie
 
 abbrev Inv-loop : tie.InvT-loop
-Inv-loop w₀ chunk t₀ w t = (t ≤ 16) × (length w ≡ 64) × (take t w ≡ words 4 chunk t)
+Inv-loop w₀ chunk t₀ w t = (t ≤ 16) × (length w ≡ 16) × (take t w ≡ words 4 chunk t)
 
 abbrev μ-loop : tie.MeasureT-loop
 μ-loop w₀ chunk t₀ w t = 16 - t
@@ -50,7 +51,7 @@ returns : tie.Need-returns Inv-loop μ-loop
 returns c =
     let l = c .before .loop in
     let e : l .t ≡ 16 = omega arith in
-    rw e at (l .inv .2)
+    sym (take-all 16 (l .w) (omega arith)) ∙ (rw e at (l .inv .2))
 
 pub fill-spec : {M : Type 1} → statement M
 fill-spec =

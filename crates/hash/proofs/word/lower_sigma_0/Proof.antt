@@ -1,7 +1,8 @@
 -- `hash::word::lower_sigma_0` meets its contract. Assumes nothing.
+use native.Mathlib.Omega.{arith}
 use borrow.Author.Needs.{needs}
 use Rattle.hash.specs.Words.{shr}
-use Rattle.hash.specs.Functions.{lower-sigma}
+use Rattle.hash.proofs.Mixing.{lower-by}
 use Rattle.hash.proofs.word.lower_sigma_0.Statement.{statement}
 use Rattle.hash.proofs.word.lower_sigma_0.Tie as tie
 
@@ -12,8 +13,10 @@ rotate-requires-2 : tie.Need-rotate-requires-2
 rotate-requires-2 c κs = search needs
 
 returns : tie.Need-returns
-unfolding shr lower-sigma
-returns c = cc
+unfolding shr
+returns c =
+    let start = c .before .before in
+    rw (c .rotate2 .ensures, c .before .rotate .ensures) (lower-by 32 7 11 3 (start .args .x) (omega arith) (start .fits .x .fits))
 
 pub lower-sigma-0-spec : {M : Type 1} → statement M
 lower-sigma-0-spec = tie.close (tie.spec rotate-requires rotate-requires-2 returns)
