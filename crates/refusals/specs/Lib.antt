@@ -106,6 +106,6 @@ nonce-differs = 24
 abbrev pub input-too-long : ℕ
 input-too-long = 25
 
--- 02, M-107: own or next rack of two
+-- rack of two
 abbrev pub rack-of-two : ℕ
 rack-of-two = 38
