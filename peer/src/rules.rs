@@ -1,4 +1,4 @@
-//! This file holds the sentences of 01 at which its slips aim, as 01 says them; `broken.rs` says one of them otherwise.
+//! This file holds the sentences of 01 and 02 at which the slips aim, as they are said; `broken.rs` says one of them otherwise.
 
 use crate::bundle::{self, Bundle};
 use crate::roll::Roll;
@@ -9,6 +9,11 @@ pub trait Rules {
     /// "Majority = n div 2, plus 1."
     fn majority(&self, n: u8) -> usize {
         n as usize / 2 + 1
+    }
+
+    /// M-107: "Initialise shall no longer take an own rack of two." … "Nor shall Finalise take a next rack of two".
+    fn takes_rack_of(&self, n: u8) -> bool {
+        n != 2
     }
 
     /// "positions strictly rising"
@@ -32,7 +37,7 @@ pub trait Rules {
     }
 }
 
-/// The rules as 01 has them.
+/// The rules as 01 has them, with the requests of 02 that have landed.
 pub struct Of01;
 
 impl Rules for Of01 {}
