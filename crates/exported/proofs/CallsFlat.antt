@@ -1,9 +1,11 @@
 -- An exported call at a head and rows, and its rule at the same head and the bytes of the rows: one answer, one area, and the rows that the one leaves have the
 -- bytes that the other leaves. Assumes nothing.
-use mathlib.Core.Path.{_≡_, refl, sym, ap, subst, _∙_}
-use mathlib.Core.Bool.{true}
+use mathlib.Core.Path.{_≡_, refl, sym, ap, ap₂, subst, _∙_}
+use mathlib.Core.Bool.{true, not, cond, _&&_}
 use mathlib.Core.List.{List, []}
 use Prim.Native.Nat.{ℕ}
+use lib.Dec.{eqb}
+use Rattle.refusals.specs.{accepted}
 use Rattle.rules.specs.declared.Answer.{Answer}
 use Rattle.rules.specs.Outcomes.{Lent, Outcome}
 use Rattle.rules.specs.Wake.{waking}
@@ -20,7 +22,8 @@ use Rattle.table.specs.Flat.{flattened}
 use Rattle.table.specs.Held.{Held, over-rows}
 use Rattle.table.proofs.RowTrips.{AllTyped}
 use Rattle.table.proofs.LeftRows.{rows-left}
-use Rattle.safety.specs.Calls.{Keeper, Call, Wake, Initialise, New, Append, Read, Append-and-read, Finalise, Activate, Bytes-to-check, lent, outcome-of}
+use Rattle.safety.specs.Calls.{Keeper, Call, Wake, Initialise, New, Append, Read, Append-and-read, Finalise, Activate, Bytes-to-check}
+use Rattle.safety.specs.Calls.{lent, outcome-of, statements-in}
 use Rattle.safety.specs.Calls as rules
 use Rattle.exported.specs.Types.{hands-bytes}
 use Rattle.exported.specs.Calls.{Box, held-by, left-by, accepts, for-signing, flat}
@@ -95,11 +98,12 @@ module _ (key : List ℕ) (b : Box) (call : Call) where
 
   pub accepts-flat : rules.accepts key (flat b) call ≡ accepts key b call
   unfolding rules.accepts accepts
-  accepts-flat = rw (same-answer)
+  accepts-flat = ap (λ (x : Answer). eqb (x .number) accepted) (sym same-answer)
 
   pub signing-flat : rules.for-signing key (flat b) call ≡ for-signing key b call
-  unfolding rules.for-signing for-signing
-  signing-flat = rw (accepts-flat, same-answer, same-area)
+  unfolding rules.for-signing for-signing rules.accepts accepts
+  signing-flat =
+      ap₂ (λ (x : Answer) (y : List ℕ). cond (eqb (x .number) accepted && not (x .repeat)) (statements-in call y) []) (sym same-answer) (sym same-area)
 
   -- the record that is left
   pub left-flat :
