@@ -52,7 +52,10 @@ fn raise(world: &mut World, prng: &mut Prng) -> Stage {
     }
     for keeper in 0..founders {
         if prng.chance(9, 10) {
-            found(world, keeper, &racks[0]);
+            match founders {
+                2 => world.found_before(keeper, &racks[0]),
+                _ => found(world, keeper, &racks[0]),
+            }
         }
     }
     Stage {
