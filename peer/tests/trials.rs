@@ -98,7 +98,7 @@ fn missing_rows_catch_each_slip_of_m_101() {
 fn histories_hand_over_missing_rows() {
     let mut prng = Prng::new(21);
     let mut pairing = quiet(&Peer, &Slip::MissingRefused, 21);
-    for _ in 0..600 {
+    for _ in 0..1_500 {
         history::run_any(&mut pairing, &mut prng);
     }
     println!("{} handovers with a missing row", pairing.tally.differences);
