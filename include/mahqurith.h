@@ -43,7 +43,7 @@ extern "C" {
  * are not to be mixed.
  */
 #define MAHQURITH_VERSION_MAJOR 1
-#define MAHQURITH_VERSION_MINOR 1
+#define MAHQURITH_VERSION_MINOR 2
 
 /*
  * Answers: 0, or the refusal's number; mahqurith_meaning says what each means. Tests are made in the order that each call
@@ -75,7 +75,8 @@ enum {
     MAHQURITH_LIST_BROKEN = 22,
     MAHQURITH_STATEMENT_NOT_ASKED = 23,
     MAHQURITH_NONCE_DIFFERS = 24,
-    MAHQURITH_INPUT_TOO_LONG = 25
+    MAHQURITH_INPUT_TOO_LONG = 25,
+    MAHQURITH_RACK_OF_TWO = 38
 };
 
 /* What an answer means, in English. Never null: a number that no call gives has a text that says so. */
@@ -109,6 +110,7 @@ static inline const char *mahqurith_meaning(uint32_t number)
         return "statement is not the one asked for: length, layout, kind, identity, rack digest or label";
     case MAHQURITH_NONCE_DIFFERS: return "nonce differs";
     case MAHQURITH_INPUT_TOO_LONG: return "hash input over 65,536 bytes";
+    case MAHQURITH_RACK_OF_TWO: return "rack of two";
     default: return "no answer of this library";
     }
 }
@@ -201,7 +203,7 @@ typedef struct {
 mahqurith_answer mahqurith_wake(mahqurith_head *head, mahqurith_row *rows, size_t row_count, mahqurith_asked asked);
 
 /*
- * Reads identity. Area: MAHQURITH_HANDOVER. Refuses: 1, 2, 3, own rack 6, 7, 8, previous rack 6, 15.
+ * Reads identity. Area: MAHQURITH_HANDOVER. Refuses: 1, 2, 3, own rack 6, 38, 7, 8, previous rack 6, 15.
  * With roll and previous both of length 0 the rack is founded, the identity asked is not read and the status is active at
  * once; with both present the status is prepared, and roll and identity are taken unproved until Activate.
  */
@@ -227,7 +229,7 @@ mahqurith_answer mahqurith_append_and_read(mahqurith_head *head, mahqurith_row *
                                            mahqurith_asked asked, uint8_t *area, size_t area_length);
 
 /*
- * Area: MAHQURITH_FINALISED. Refuses: 1, 2, then 4, 6. Writes the statement, then the roll's blocks. The chip signs the
+ * Area: MAHQURITH_FINALISED. Refuses: 1, 2, then 4, 6, 38. Writes the statement, then the roll's blocks. The chip signs the
  * statement (the first MAHQURITH_HANDOVER bytes), the box stores the signature, and only then the chip erases its key. A
  * keeper that is finalised already answers with its earlier statement and roll, does not read next, and marks the answer
  * as a repeat: there is nothing to sign.

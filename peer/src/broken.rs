@@ -1,9 +1,11 @@
 //! This file holds the peer with one rule deliberately broken, by which the tests show that each slip is caught.
 
 use crate::bundle::{self, leads_to, Bundle, Held};
-use crate::call::{Call, Lent, Reply};
+use crate::call::{Call, Lent, Reply, Verdict};
 use crate::party::{perform_by, Party};
+use crate::rack;
 use crate::record::{ACTIVE, FINALISED};
+use crate::refusals::{Refusal, OWN_KEY_MISSING, RACK_OF_TWO};
 use crate::roll::Roll;
 use crate::row::Row;
 use crate::rules::{Of01, Rules};
@@ -33,6 +35,16 @@ pub enum Slip {
     MissingUnread,
     /// A missing row refused, as before M-101.
     MissingRefused,
+    /// A rack of two taken, as before M-107.
+    TwoTaken,
+    /// A rack of one refused as well.
+    OneRefused,
+    /// 38 wherever a rack of two is met, also where it "stays valid".
+    TwoNowhere,
+    /// 38 in Initialise after 7.
+    TwoAfterKey,
+    /// The argument of a repeated Finalise read for its size.
+    TwoInRepeat,
 }
 
 pub const SLIPS: [Slip; 11] = [
@@ -60,12 +72,23 @@ impl Slip {
     }
 }
 
+pub const SLIPS_OF_M_107: [Slip; 5] =
+    [Slip::TwoTaken, Slip::OneRefused, Slip::TwoNowhere, Slip::TwoAfterKey, Slip::TwoInRepeat];
+
 /// The rules but for the slip.
 impl Rules for Slip {
     fn majority(&self, n: u8) -> usize {
         match self {
             Slip::MajorityUp => n.div_ceil(2) as usize,
             _ => Of01.majority(n),
+        }
+    }
+
+    fn takes_rack_of(&self, n: u8) -> bool {
+        match self {
+            Slip::TwoTaken => true,
+            Slip::OneRefused => n > 2,
+            _ => Of01.takes_rack_of(n),
         }
     }
 
@@ -135,6 +158,47 @@ impl Party for Slip {
                 return reply;
             }
         }
+        if let Some(number) = self.other_number(lent, call) {
+            return match call {
+                Call::Verdict(_) => Reply::Verdict(Verdict { number, tail: [0; 32], height: 0 }),
+                _ => Reply::Answer(number.into()),
+            };
+        }
         perform_by(self, lent, call)
+    }
+}
+
+impl Slip {
+    /// The refusal that a slip of M-107 gives in the place of the rules' answer.
+    fn other_number(&self, lent: &Lent, call: &Call) -> Option<Refusal> {
+        let right = || perform_by(&Of01, &mut lent.clone(), call);
+        match (self, call) {
+            (Slip::TwoNowhere, _) => {
+                let met = racks_that_stay(call).iter().any(|rack| of_two(rack));
+                (met && right().number() == 0).then_some(RACK_OF_TWO)
+            }
+            (Slip::TwoAfterKey, Call::Initialise { own, .. }) => {
+                let lacking = rack::read(own).is_ok_and(|rack| !rack.holds(&lent.head.key));
+                (lacking && right().number() == RACK_OF_TWO).then_some(OWN_KEY_MISSING)
+            }
+            (Slip::TwoInRepeat, Call::Finalise { next }) => {
+                (of_two(next) && right().answer().repeat).then_some(RACK_OF_TWO)
+            }
+            _ => None,
+        }
+    }
+}
+
+fn of_two(rack: &[u8]) -> bool {
+    rack::read(rack).is_ok_and(|rack| rack.count == 2)
+}
+
+/// The racks of a call in which two keepers "stay valid".
+fn racks_that_stay(call: &Call) -> Vec<&[u8]> {
+    match call {
+        Call::Initialise { previous, .. } => vec![previous],
+        Call::Activate(papers) | Call::BytesToCheck { papers, .. } => vec![&papers.previous, &papers.own],
+        Call::Verdict(ask) => vec![&ask.rack],
+        _ => vec![],
     }
 }

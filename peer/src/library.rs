@@ -99,8 +99,8 @@ pub struct Library;
 /// as pointer and length.
 macro_rules! call {
     ($function:ident $({$head:expr, $table:expr})? [$($asked:expr)?] [$($message:expr),*] [$($area:expr)?]) => {
-        // SAFETY: the header asks for pointers that are not null, and for head, rows and area that overlap nothing. Slices
-        // give such pointers, and the borrows show the rest.
+        // SAFETY: the header lists what a caller owes. Slices and references give pointers that are not null, are aligned and
+        // have the memory that their lengths say; the borrows show that what is written overlaps nothing and is not shared.
         unsafe {
             $function(
                 $($head, $table.as_mut_ptr(), $table.len(),)?

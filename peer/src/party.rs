@@ -41,7 +41,7 @@ pub fn perform_by(rules: &dyn Rules, lent: &mut Lent, call: &Call) -> Reply {
         Call::WriteStatement { statement } => written(statement::write(statement, &mut lent.area)),
         Call::Wake { key } => tried(calls::wake(lent, key)),
         Call::Initialise { identity, roll, previous, own } => {
-            tried(calls::initialise(lent, identity, roll, previous, own))
+            tried(calls::initialise(rules, lent, identity, roll, previous, own))
         }
         Call::New { label } => tried(calls::new(lent, label)),
         Call::Append { label, entry, expected } => tried(calls::append(lent, label, entry, *expected)),
@@ -49,7 +49,7 @@ pub fn perform_by(rules: &dyn Rules, lent: &mut Lent, call: &Call) -> Reply {
         Call::AppendAndRead { label, entry, expected, nonce } => {
             tried(calls::append_and_read(lent, label, entry, *expected, nonce))
         }
-        Call::Finalise { next } => tried(calls::finalise(lent, next)),
+        Call::Finalise { next } => tried(calls::finalise(rules, lent, next)),
         Call::Activate(papers) => tried(calls::activate(rules, lent, papers)),
         Call::BytesToCheck { papers, list, entry } => tried(calls::bytes_to_check(rules, lent, papers, *list, *entry)),
         Call::Verdict(ask) => verdict(rules, ask),

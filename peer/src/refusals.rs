@@ -1,4 +1,4 @@
-//! This file holds the refusal numbers of 01's table, each with 01's meaning.
+//! This file holds the refusal numbers of 01's table, each with 01's meaning, and 02's.
 
 /// A refusal is 01's number; 0 is acceptance and never stands as a refusal.
 pub type Refusal = u32;
@@ -53,3 +53,6 @@ pub const OTHER_STATEMENT: Refusal = 23;
 pub const OTHER_NONCE: Refusal = 24;
 /// "hash input over 65,536 bytes"
 pub const HASH_INPUT_TOO_LONG: Refusal = 25;
+
+/// M-107: "38 directly after 6 for the own rack in Initialise and for the next rack in Finalise"
+pub const RACK_OF_TWO: Refusal = 38;

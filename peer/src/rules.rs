@@ -11,6 +11,11 @@ pub trait Rules {
         n as usize / 2 + 1
     }
 
+    /// M-107: "Initialise shall no longer take an own rack of two." … "Nor shall Finalise take a next rack of two".
+    fn takes_rack_of(&self, n: u8) -> bool {
+        n != 2
+    }
+
     /// "positions strictly rising"
     fn rises(&self, position: u8, next: u8) -> bool {
         position < next

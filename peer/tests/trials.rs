@@ -1,6 +1,6 @@
 //! This file tests that the peer passes every trial, that each broken rule is caught, and that the comparison sees differences.
 
-use peer::broken::{Slip, SLIPS, SLIPS_OF_M_101};
+use peer::broken::{Slip, SLIPS, SLIPS_OF_M_101, SLIPS_OF_M_107};
 use peer::party::{Party, Peer};
 use peer::trial::lists::LISTS;
 use peer::trial::pairing::Pairing;
@@ -98,12 +98,26 @@ fn missing_rows_catch_each_slip_of_m_101() {
 fn histories_hand_over_missing_rows() {
     let mut prng = Prng::new(21);
     let mut pairing = quiet(&Peer, &Slip::MissingRefused, 21);
-    for _ in 0..600 {
+    for _ in 0..1_500 {
         history::run_any(&mut pairing, &mut prng);
     }
     println!("{} handovers with a missing row", pairing.tally.differences);
     assert_eq!(pairing.tally.first_fault, None);
     assert!(pairing.tally.differences > 10);
+}
+
+/// They break no verdict, so the numbers, the readings and the order must catch them.
+#[test]
+fn trials_catch_each_slip_of_m_107() {
+    for slip in SLIPS_OF_M_107 {
+        let mut prng = Prng::new(22);
+        let mut pairing = quiet(&slip, &slip, 22);
+        numbers::run(&mut pairing, &mut prng);
+        readings::run(&mut pairing, &mut prng);
+        order::run(&mut pairing, &mut prng);
+        println!("{slip:?}: {} faults in {} calls", pairing.tally.faults, pairing.tally.calls);
+        assert!(pairing.tally.faults > 0, "{slip:?} was not caught");
+    }
 }
 
 fn slips_of_histories() -> impl Iterator<Item = Slip> {
@@ -148,7 +162,7 @@ fn aimed_histories_break_demand_3() {
 
 #[test]
 fn comparison_sees_each_slip_as_a_difference() {
-    for slip in SLIPS {
+    for slip in SLIPS.into_iter().chain(SLIPS_OF_M_107) {
         let mut pairing = quiet(&Peer, &slip, 18);
         let mut prng = Prng::new(18);
         numbers::run(&mut pairing, &mut prng);

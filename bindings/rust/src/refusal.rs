@@ -73,6 +73,7 @@ refusals! {
     23 StatementNotAsked "statement is not the one asked for: length, layout, kind, identity, rack digest or label",
     24 NonceDiffers "nonce differs",
     25 InputTooLong "hash input over 65,536 bytes",
+    38 RackOfTwo "rack of two",
 }
 
 impl fmt::Display for Refusal {

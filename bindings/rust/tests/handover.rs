@@ -39,7 +39,7 @@ fn bundle_of(rolls: [&[u8]; 2], missed: &Digest) -> Vec<u8> {
 
 #[test]
 fn a_handover_keeps_the_tail() {
-    let (old, new) = (rack_of(&[1, 2, 3]), rack_of(&[4, 5]));
+    let (old, new) = (rack_of(&[1, 2, 3]), rack_of(&[4, 5, 6]));
     let mut keepers = founded(&[1, 2, 3]);
     let identity = keepers[0].head().identity;
     let entry = sha256(b"Cue 1: house to half").unwrap();
@@ -70,7 +70,7 @@ fn a_handover_keeps_the_tail() {
 
 #[test]
 fn a_forged_bundle_is_refused() {
-    let (old, new) = (rack_of(&[1, 2, 3]), rack_of(&[4, 5]));
+    let (old, new) = (rack_of(&[1, 2, 3]), rack_of(&[4, 5, 6]));
     let mut keepers = founded(&[1, 2, 3]);
     let identity = keepers[0].head().identity;
     keepers[0].append(&LABEL, &[6; 32], 1).unwrap();
@@ -103,4 +103,15 @@ fn stored_records_are_taken_as_they_are() {
     let mut head = *keeper.head();
     head.status = 4;
     assert_eq!(Keeper::from_parts(head, *keeper.rows()).read(&LABEL, &[0; 16]), Err(Refusal::RecordNotSound));
+}
+
+#[test]
+fn no_rack_of_two_is_entered_or_handed_to() {
+    let pair = rack_of(&[1, 2]);
+    let mut keeper = Keeper::wake(&[1; 32]);
+    assert_eq!(keeper.found(&pair), Err(Refusal::RackOfTwo));
+    keeper.found(&rack_of(&[1])).unwrap();
+    assert_eq!(keeper.finalise(&pair), Err(Refusal::RackOfTwo));
+    let heirs = keeper.finalise(&rack_of(&[2])).unwrap();
+    assert_eq!(keeper.finalise(&pair).unwrap(), mahqurith::Finalised { repeat: true, ..heirs });
 }

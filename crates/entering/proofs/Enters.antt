@@ -6,13 +6,13 @@ use Prim.Native.Nat.{ℕ, _≤_}
 use borrow.Author.Tests.{eqb-false, not-false}
 use lib.ListN.{length, take}
 use lib.Dec.{eqb}
-use Rattle.refusals.specs.{accepted, not-blank, rack-broken, key-not-in-rack, roll-or-rack-alone, roll-broken}
+use Rattle.refusals.specs.{accepted, not-blank, rack-broken, rack-of-two, key-not-in-rack, roll-or-rack-alone, roll-broken}
 use Rattle.refusals.specs.Order.{first}
 use Rattle.refusals.proofs.Orders.{numbered, stops, goes-on, passes}
 use Rattle.octets.specs.Strings.{all-zero}
 use Rattle.octets.specs.Layouts.{holds, read}
 use Rattle.octets.proofs.RoundTrips.{holds-fits}
-use Rattle.rack.specs.Racks.{most, rack-bytes, rack-layout, rack-digest}
+use Rattle.rack.specs.Racks.{most, rack-bytes, rack-layout, rack-digest, is-of-two}
 use Rattle.rack.proofs.RackTrips.{rack-whole}
 use Rattle.rows.specs.Sizes.{table-bytes}
 use Rattle.rows.proofs.Tables.{fit-length}
@@ -95,7 +95,8 @@ unfolding initialise-refusal
 enterable k roll previous own e =
     let r = ready handover-size blank not-blank k _ (eqb-false 3 0 refl) e in
     let a = passes (not (holds rack-layout own)) rack-broken _ (eqb-false 6 0 refl) (r .1) in
-    let b = passes (not (is-in-rack (k .head .key) own)) key-not-in-rack _ (eqb-false 7 0 refl) (a .1) in
+    let d = passes (is-of-two own) rack-of-two _ (eqb-false 38 0 refl) (a .1) in
+    let b = passes (not (is-in-rack (k .head .key) own)) key-not-in-rack _ (eqb-false 7 0 refl) (d .1) in
     record {
       room = r .0 .room;
       long = fit-length (k .head .count) (k .table) (sound-rows (k .head) (k .table) (r .0 .sounds));

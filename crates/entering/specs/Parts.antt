@@ -4,10 +4,10 @@ use mathlib.Core.Bool.{true, not, cond, _&&_}
 use mathlib.Core.List.{List, [], _∷_}
 use Prim.Native.Nat.{ℕ, _≤_}
 use lib.ListN.{length}
-use Rattle.refusals.specs.{rack-broken, key-not-in-rack, roll-or-rack-alone, roll-broken}
+use Rattle.refusals.specs.{rack-broken, rack-of-two, key-not-in-rack, roll-or-rack-alone, roll-broken}
 use Rattle.refusals.specs.Order.{Test, _⇒_}
 use Rattle.octets.specs.Layouts.{holds}
-use Rattle.rack.specs.Racks.{rack-layout}
+use Rattle.rack.specs.Racks.{rack-layout, is-of-two}
 use Rattle.rows.specs.Sizes.{table-bytes}
 use Rattle.rows.specs.Digests.{roll-digest}
 use Rattle.roll.specs.Roll.{roll-layout}
@@ -19,10 +19,11 @@ use Rattle.rules.specs.declared.Head.{Head}
 use Rattle.rules.specs.Outcomes.{Lent, Outcome}
 use Rattle.rules.specs.Initialise.{absent, is-in-rack, preparing, entered}
 
--- "own rack 6, 7"
+-- "own rack 6", 38, "7"
 abbrev pub own-tests : List ℕ → List ℕ → List Test
 own-tests key own =
     (not (holds rack-layout own) ⇒ rack-broken)
+    ∷ (is-of-two own ⇒ rack-of-two)
     ∷ (not (is-in-rack key own) ⇒ key-not-in-rack)
     ∷ []
 

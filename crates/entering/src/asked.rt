@@ -2,6 +2,7 @@
 use rack::KEY_BYTES;
 use rack::MOST;
 use rack::is_member;
+use rack::is_of_two;
 use rack::is_rack;
 use rack::read_rack;
 use record::BLANK;
@@ -44,6 +45,9 @@ fn refusal_of_own(key: [u8; 32], own: &[u8]) -> u32
 {
     if !is_rack(own) {
         return refusals::RACK_BROKEN;
+    }
+    if is_of_two(own) {
+        return refusals::RACK_OF_TWO;
     }
     if !is_in_rack(key, own) {
         return refusals::KEY_NOT_IN_RACK;

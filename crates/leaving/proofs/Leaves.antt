@@ -29,5 +29,5 @@ can-speak k n e accepts =
 pub next-holds : (k : Lent) (next : List ℕ) → finalise-refusal k next ≡ accepted → holds rack-layout next ≡ true
 unfolding finalise-refusal
 next-holds k next e =
-    let acts = passes (not (eqb (k .head .status) active)) not-active ((not (holds rack-layout next) ⇒ rack-broken) ∷ []) (eqb-false 4 0 refl) e in
-    not-false (holds rack-layout next) (passes (not (holds rack-layout next)) rack-broken [] (eqb-false 6 0 refl) (acts .1) .0)
+    let acts = passes (not (eqb (k .head .status) active)) not-active _ (eqb-false 4 0 refl) e in
+    not-false (holds rack-layout next) (passes (not (holds rack-layout next)) rack-broken _ (eqb-false 6 0 refl) (acts .1) .0)

@@ -1,5 +1,6 @@
 // Finalise.
 use crate::words::speak;
+use rack::is_of_two;
 use rack::is_rack;
 use rack::rack_digest;
 use record::ACTIVE;
@@ -30,6 +31,9 @@ fn refusal_of_finalise(head: Head, next: &[u8]) -> u32
     }
     if !is_rack(next) {
         return refusals::RACK_BROKEN;
+    }
+    if is_of_two(next) {
+        return refusals::RACK_OF_TWO;
     }
     refusals::ACCEPTED
 }

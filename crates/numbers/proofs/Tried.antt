@@ -14,7 +14,7 @@ use Rattle.octets.specs.Strings.{all-zero}
 use Rattle.octets.specs.Layouts.{holds}
 use Rattle.marks.specs.Entries.{marks-tests, pair-marks}
 use Rattle.marks.proofs.Refused.{marks-numbered}
-use Rattle.rack.specs.Racks.{rack-layout, majority}
+use Rattle.rack.specs.Racks.{rack-layout, is-of-two, majority}
 use Rattle.rack.proofs.NumbersToTry.{majorities, none-is-broken, sixteen-is-broken, fifteen}
 use Rattle.roll.specs.Roll.{Roll}
 use Rattle.roll.proofs.NumbersToTry.{blocks-tried}
@@ -99,24 +99,37 @@ still-sound h table next e = sound-rows h table e
 
 -- of the two calls the second has the first one's record, and other arguments
 second-finalise :
-    (k : Lent) (next other area : List ℕ) → Ready active finalise-size k → holds rack-layout next ≡ true → finalise-size ≤ length area
+    (k : Lent) (next other area : List ℕ) → Ready active finalise-size k → holds rack-layout next ≡ true → is-of-two next ≡ false
+    → finalise-size ≤ length area
     → (finalising k next ≡ given (last-words (handed-over (k .head) next) (k .table)) (handed-over (k .head) next) (k .table) (k .area))
     × (finalising (record { head = handed-over (k .head) next; table = k .table; area = area }) other
     ≡ again (last-words (handed-over (k .head) next) (k .table)) (record { head = handed-over (k .head) next; table = k .table; area = area }))
 unfolding finalising leaving finalise-refusal first unless
-second-finalise k next other area r h room =
+second-finalise k next other area r h more room =
     let k' : Lent = record { head = handed-over (k .head) next; table = k .table; area = area } in (
-      rw (lent-by finalise-size k (r .room) (r .sounds), r .has-status, h),
+      rw (lent-by finalise-size k (r .room) (r .sounds), r .has-status, h, more),
       rw (lent-by finalise-size k' room (still-sound (k .head) (k .table) next (r .sounds))),
     )
 
 roll-alone :
-    (k : Lent) (identity roll own : List ℕ) → Ready blank handover-size k → holds rack-layout own ≡ true → is-in-rack (k .head .key) own ≡ true
-    → 1 ≤ length roll → initialising k identity roll [] own ≡ refused 8 0 k
+    (k : Lent) (identity roll own : List ℕ) → Ready blank handover-size k → holds rack-layout own ≡ true → is-of-two own ≡ false
+    → is-in-rack (k .head .key) own ≡ true → 1 ≤ length roll → initialising k identity roll [] own ≡ refused 8 0 k
 unfolding initialising initialise-refusal first
-roll-alone k identity roll own r h member some =
+roll-alone k identity roll own r h more member some =
     comes-to _ 8 0 k _
-    (ready-by handover-size k (r .room) (r .sounds) blank not-blank _ (r .has-status) ∙ rw (h, member, ne-eqb (length roll) 0 (omega arith))) refl
+    (ready-by handover-size k (r .room) (r .sounds) blank not-blank _ (r .has-status) ∙ rw (h, more, member, ne-eqb (length roll) 0 (omega arith))) refl
+
+own-rack-of-two :
+    (k : Lent) (identity roll previous own : List ℕ) → Ready blank handover-size k → holds rack-layout own ≡ true → is-of-two own ≡ true
+    → initialising k identity roll previous own ≡ refused 38 0 k
+unfolding initialising initialise-refusal first
+own-rack-of-two k identity roll previous own r h two =
+    comes-to _ 38 0 k _ (ready-by handover-size k (r .room) (r .sounds) blank not-blank _ (r .has-status) ∙ rw (h, two)) refl
+
+next-rack-of-two :
+    (k : Lent) (next : List ℕ) → Ready active finalise-size k → holds rack-layout next ≡ true → is-of-two next ≡ true → finalising k next ≡ refused 38 0 k
+unfolding finalising leaving finalise-refusal first unless
+next-rack-of-two k next r h two = rw (lent-by finalise-size k (r .room) (r .sounds), r .has-status, h, two)
 
 -- what is asked beside another roll that has the row derives the roll
 rest-derives : (ours : Roll) (s : List ℕ) → Rest-holds ours s → derived ours s ≡ true
@@ -177,4 +190,6 @@ tried-all =
       roll-alone = roll-alone;
       lacking-one = λ k previous own s i j r o h h' l lacks has rest. lacking-one k previous own s o rest;
       lacked-by-all = λ k previous own s r o. lacked-by-all k previous own s o r;
+      own-rack-of-two = own-rack-of-two;
+      next-rack-of-two = next-rack-of-two;
     }

@@ -1,4 +1,5 @@
--- 01, "Numbers to try": the cases "Marked P: proved for the rules themselves, gathered in a single list under one claim", in the order of 01.
+-- 01, "Numbers to try": the cases "Marked P: proved for the rules themselves, gathered in a single list under one claim", in the order of 01, and those that
+-- 02 adds.
 use mathlib.Core.Path.{_≡_}
 use mathlib.Core.Bool.{true, false}
 use mathlib.Core.List.{List, [], _∷_}
@@ -7,7 +8,7 @@ use lib.ListN.{length}
 use Rattle.refusals.specs.{accepted, signature-not-valid, initialise-not-valid}
 use Rattle.refusals.specs.Order.{first}
 use Rattle.octets.specs.Layouts.{holds}
-use Rattle.rack.specs.Racks.{rack-layout, rack-cut, majority}
+use Rattle.rack.specs.Racks.{rack-layout, rack-cut, is-of-two, majority}
 use Rattle.rack.specs.Promise.{reading}
 use Rattle.rows.specs.Digests.{appended}
 use Rattle.roll.specs.Blocks.{blocks}
@@ -94,7 +95,8 @@ pub record Numbers-to-try : Type 0 where
   pub far-below : (k : Lent) (label entry : List ℕ) → Stands k label 4294967295 → appending k label entry 5 ≡ refused 11 4294967295 k
   -- "second finalise naming another rack: the first statement again"
   pub second-finalise :
-      (k : Lent) (next other area : List ℕ) → Ready active finalise-size k → holds rack-layout next ≡ true → finalise-size ≤ length area
+      (k : Lent) (next other area : List ℕ) → Ready active finalise-size k → holds rack-layout next ≡ true → is-of-two next ≡ false
+      → finalise-size ≤ length area
       → (finalising k next ≡ given (last-words (handed-over (k .head) next) (k .table)) (handed-over (k .head) next) (k .table) (k .area))
       × (finalising (record { head = handed-over (k .head) next; table = k .table; area = area }) other
       ≡ again (last-words (handed-over (k .head) next) (k .table)) (record { head = handed-over (k .head) next; table = k .table; area = area }))
@@ -104,8 +106,8 @@ pub record Numbers-to-try : Type 0 where
   pub two-signers : (q : Question) (s : List ℕ) (p r : ℕ) → Asked q s → p < r → r < 3 → judging q s (p ∷ 3 ∷ r ∷ 3 ∷ []) ≡ shown s
   -- "roll without previous rack: 8"
   pub roll-alone :
-      (k : Lent) (identity roll own : List ℕ) → Ready blank handover-size k → holds rack-layout own ≡ true → is-in-rack (k .head .key) own ≡ true
-      → 1 ≤ length roll → initialising k identity roll [] own ≡ refused 8 0 k
+      (k : Lent) (identity roll own : List ℕ) → Ready blank handover-size k → holds rack-layout own ≡ true → is-of-two own ≡ false
+      → is-in-rack (k .head .key) own ≡ true → 1 ≤ length roll → initialising k identity roll [] own ≡ refused 8 0 k
   -- "an old roll lacking one of our ledgers: 20"; since M-101 of 02 "accepted when another old roll has it, otherwise 20"
   pub lacking-one :
       (k : Lent) (previous own s : List ℕ) (i j r : ℕ) → Offered k previous own s → i < old-count s → j < old-count s → r < k .head .count
@@ -114,3 +116,9 @@ pub record Numbers-to-try : Type 0 where
   pub lacked-by-all :
       (k : Lent) (previous own s : List ℕ) (r : ℕ) → Offered k previous own s → r < k .head .count
       → ((i : ℕ) → i < old-count s → is-absent (row-in (roll-of s i) (own-roll k) r) ≡ true) → activating k previous own s ≡ refused 20 0 k
+  -- 02, M-107: "38 directly after 6 for the own rack in Initialise and for the next rack in Finalise": before 7 and 8, founding too
+  pub own-rack-of-two :
+      (k : Lent) (identity roll previous own : List ℕ) → Ready blank handover-size k → holds rack-layout own ≡ true → is-of-two own ≡ true
+      → initialising k identity roll previous own ≡ refused 38 0 k
+  pub next-rack-of-two :
+      (k : Lent) (next : List ℕ) → Ready active finalise-size k → holds rack-layout next ≡ true → is-of-two next ≡ true → finalising k next ≡ refused 38 0 k

@@ -4,7 +4,7 @@ use Prim.Native.Nat.{ℕ, _+_, _*_, _/_}
 use mathlib.Core.Bool.{Bool, false, _&&_, _||_}
 use mathlib.Core.List.{List, [], _∷_, _++_, flatten}
 use lib.ListN.{getD, take, drop, replicate}
-use lib.Dec.{leb}
+use lib.Dec.{eqb, leb}
 use Rattle.octets.specs.Strings.{all-zero, same, pieces, rising}
 use Rattle.octets.specs.Layouts.{Layout}
 use Rattle.hash.specs.Sha256.{sha256}
@@ -60,6 +60,10 @@ rack-string s = rack-mark ∷ s
 -- "SHA-256 of" it
 unfoldable pub rack-digest : List ℕ → List ℕ
 rack-digest s = sha256 (rack-string s)
+
+-- 02, M-107: "a rack of two"
+unfoldable pub is-of-two : List ℕ → Bool
+is-of-two s = eqb (rack-cut s .count) 2
 
 -- "n div 2, plus 1"
 abbrev pub majority : ℕ → ℕ

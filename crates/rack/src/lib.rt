@@ -11,6 +11,7 @@ pub use keys::Keys;
 pub use keys::MOST;
 pub use keys::is_member;
 pub use keys::is_rising;
+pub use numbers::is_of_two;
 pub use numbers::majority;
 pub use reading::is_rack;
 pub use reading::read_rack;

@@ -105,3 +105,7 @@ nonce-differs = 24
 -- hash input over 65,536 bytes
 abbrev pub input-too-long : ℕ
 input-too-long = 25
+
+-- rack of two
+abbrev pub rack-of-two : ℕ
+rack-of-two = 38

@@ -77,3 +77,6 @@ pub const NONCE_DIFFERS: u32 = 24;
 
 // Hash input over 65,536 bytes.
 pub const INPUT_TOO_LONG: u32 = 25;
+
+// Rack of two.
+pub const RACK_OF_TWO: u32 = 38;

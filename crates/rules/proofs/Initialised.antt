@@ -4,10 +4,10 @@ use mathlib.Core.Bool.{true, false, not, cond, _&&_}
 use mathlib.Core.List.{List}
 use Prim.Native.Nat.{ℕ}
 use borrow.Author.Tests.{eqb-false}
-use Rattle.refusals.specs.{accepted, not-blank, rack-broken, key-not-in-rack, roll-or-rack-alone, roll-broken}
+use Rattle.refusals.specs.{accepted, not-blank, rack-broken, rack-of-two, key-not-in-rack, roll-or-rack-alone, roll-broken}
 use Rattle.refusals.proofs.Orders.{passes}
 use Rattle.octets.specs.Layouts.{holds}
-use Rattle.rack.specs.Racks.{rack-layout}
+use Rattle.rack.specs.Racks.{rack-layout, is-of-two}
 use Rattle.roll.specs.Roll.{roll-layout}
 use Rattle.statement.specs.Kinds.{handover-size}
 use Rattle.rules.specs.Record.{blank, sound}
@@ -27,7 +27,8 @@ unfolding initialise-refusal
 initialisable k roll previous own e =
     let r = ready handover-size blank not-blank k _ (eqb-false 3 0 refl) e in
     let a = passes (not (holds rack-layout own)) rack-broken _ (eqb-false 6 0 refl) (r .1) in
-    let b = passes (not (is-in-rack (k .head .key) own)) key-not-in-rack _ (eqb-false 7 0 refl) (a .1) in
+    let g = passes (is-of-two own) rack-of-two _ (eqb-false 38 0 refl) (a .1) in
+    let b = passes (not (is-in-rack (k .head .key) own)) key-not-in-rack _ (eqb-false 7 0 refl) (g .1) in
     let c = passes (cond (absent roll) (not (absent previous)) (absent previous)) roll-or-rack-alone _ (eqb-false 8 0 refl) (b .1) in
     let d = passes (not (absent previous) && not (holds rack-layout previous)) rack-broken _ (eqb-false 6 0 refl) (c .1) in
     let f = passes (not (absent roll) && not (holds roll-layout roll)) roll-broken _ (eqb-false 15 0 refl) (d .1) in

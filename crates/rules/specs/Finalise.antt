@@ -1,13 +1,14 @@
 -- 01, "Finalise (next rack; 3,713): 1, 2; if already finalised, the earlier statement and roll again, the argument not read, marked as a repeat with
 -- nothing to sign; then 4, 6. Gives the statement, then the roll blocks; the chip signs, then erases its key."
+-- 02, M-107: "Nor shall Finalise take a next rack of two; .. 38 directly after 6 .. for the next rack in Finalise."
 use mathlib.Core.Bool.{not, cond}
 use mathlib.Core.List.{List, [], _∷_, _++_}
 use Prim.Native.Nat.{ℕ}
 use lib.Dec.{eqb}
-use Rattle.refusals.specs.{not-active, rack-broken}
+use Rattle.refusals.specs.{not-active, rack-broken, rack-of-two}
 use Rattle.refusals.specs.Order.{_⇒_, first}
 use Rattle.octets.specs.Layouts.{holds}
-use Rattle.rack.specs.Racks.{rack-layout, rack-digest}
+use Rattle.rack.specs.Racks.{rack-layout, rack-digest, is-of-two}
 use Rattle.rows.specs.Digests.{roll-digest}
 use Rattle.roll.specs.Roll.{roll-layout}
 use Rattle.statement.specs.declared.Kind.the-variants.{Finalise}
@@ -42,6 +43,7 @@ finalise-refusal k next =
     first
     ((not (eqb (k .head .status) active) ⇒ not-active)
     ∷ (not (holds rack-layout next) ⇒ rack-broken)
+    ∷ (is-of-two next ⇒ rack-of-two)
     ∷ [])
 
 unfoldable pub leaving : Lent → List ℕ → Outcome

@@ -2,15 +2,16 @@
 -- both of length 0 the rack is founded: identity becomes the own rack digest, the given identity isn't read, and the status is *active* at once. With both
 -- present the status is prepared and roll and identity are taken unproved. Own and previous rack digests are set (previous zeros when founding), the next
 -- one to zeros. One present alone is 8."
+-- 02, M-107: "Initialise shall no longer take an own rack of two. .. Refusals: 38 directly after 6 for the own rack in Initialise".
 use mathlib.Core.Bool.{Bool, not, cond, _&&_}
 use mathlib.Core.List.{List, [], _∷_, _++_}
 use Prim.Native.Nat.{ℕ}
 use lib.ListN.{length, take}
 use lib.Dec.{eqb}
-use Rattle.refusals.specs.{not-blank, rack-broken, key-not-in-rack, roll-or-rack-alone, roll-broken}
+use Rattle.refusals.specs.{not-blank, rack-broken, rack-of-two, key-not-in-rack, roll-or-rack-alone, roll-broken}
 use Rattle.refusals.specs.Order.{_⇒_, first}
 use Rattle.octets.specs.Layouts.{holds}
-use Rattle.rack.specs.Racks.{rack-layout, rack-digest, rack-cut, is-among}
+use Rattle.rack.specs.Racks.{rack-layout, rack-digest, rack-cut, is-among, is-of-two}
 use Rattle.rows.specs.Digests.{roll-digest}
 use Rattle.roll.specs.Roll.{roll-layout}
 use Rattle.statement.specs.declared.Kind.the-variants.{Initialise}
@@ -34,6 +35,7 @@ initialise-refusal k roll previous own =
     first
     (readiness handover-size blank not-blank k
     ++ (not (holds rack-layout own) ⇒ rack-broken)
+    ∷ (is-of-two own ⇒ rack-of-two)
     ∷ (not (is-in-rack (k .head .key) own) ⇒ key-not-in-rack)
     ∷ (cond (absent roll) (not (absent previous)) (absent previous) ⇒ roll-or-rack-alone)
     ∷ (not (absent previous) && not (holds rack-layout previous) ⇒ rack-broken)

@@ -27,11 +27,11 @@ pub fn woken(table: &mut [u8; TABLE], n: u8) -> Head {
     told.head
 }
 
-// The keeper of key 1, once it has founded its rack.
-pub fn founded(table: &mut [u8; TABLE], rack: &[u8]) -> Head {
+// The keeper of key 1 is to found a rack.
+pub fn founding(table: &mut [u8; TABLE], rack: &[u8]) -> Told {
     let head = woken(table, 1);
     let mut area = [0u8; HANDOVER_SIZE];
-    let told = entering::initialise(
+    entering::initialise(
         head,
         table,
         [0u8; 32],
@@ -39,7 +39,12 @@ pub fn founded(table: &mut [u8; TABLE], rack: &[u8]) -> Head {
         &rack[..0],
         rack,
         &mut area,
-    );
+    )
+}
+
+// The keeper of key 1, once it has founded its rack.
+pub fn founded(table: &mut [u8; TABLE], rack: &[u8]) -> Head {
+    let told = founding(table, rack);
     told.head
 }
 

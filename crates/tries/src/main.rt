@@ -1,10 +1,11 @@
-// Makes the calls of document 01's "Numbers to try", and says of each case what they answered.
+// Makes the calls of document 01's "Numbers to try" and of the cases that 02 adds, and says of each what they answered.
 mod desks;
 mod finals;
 mod growth;
 mod handovers;
 mod keepers;
 mod layouts;
+mod pairs;
 mod people;
 mod say;
 
@@ -20,4 +21,5 @@ fn main() {
     handovers::roll_alone();
     handovers::lacking();
     handovers::empty();
+    pairs::refused();
 }

@@ -2,8 +2,10 @@
 
 pub const KEY: usize = 32;
 
-// The bytes of racks of one, three and sixteen keys; the last is one too many.
+// The bytes of racks of one, two, three and sixteen keys; the last is one too many.
 pub const ONE: usize = 1 + KEY;
+
+pub const TWO: usize = 1 + 2 * KEY;
 
 pub const THREE: usize = 1 + 3 * KEY;
 
@@ -21,6 +23,13 @@ pub fn label(n: u8) -> [u8; 16] {
 pub fn rack_of_one(n: u8) -> [u8; ONE] {
     let mut rack = [n; ONE];
     rack[0] = 1;
+    rack
+}
+
+// The rack of keys 1 and 2.
+pub fn rack_of_two() -> [u8; TWO] {
+    let mut rack = [2u8; TWO];
+    octets::copy_at(&mut rack, 1, &[1u8; KEY]);
     rack
 }
 

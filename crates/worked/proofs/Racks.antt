@@ -1,11 +1,12 @@
 -- What the rules ask of the two racks. Assumes nothing.
-use mathlib.Core.Path.{_≡_, refl}
-use mathlib.Core.Bool.{true}
+use mathlib.Core.Path.{_≡_, refl, ap}
+use mathlib.Core.Bool.{true, false}
 use mathlib.Core.List.{List, flatten}
 use Prim.Native.Nat.{ℕ}
+use lib.Dec.{eqb}
 use Rattle.octets.specs.Strings.{all-zero, same, before, pieces, rising}
 use Rattle.octets.specs.Layouts.{holds}
-use Rattle.rack.specs.Racks.{rack-layout, rack-written, rack-cut, rack-fits, is-among, rack-digest}
+use Rattle.rack.specs.Racks.{rack-layout, rack-written, rack-cut, rack-fits, is-among, is-of-two, rack-digest}
 use Rattle.rules.specs.Initialise.{is-in-rack}
 use Rattle.rules.specs.Activate.{rack-size}
 use Rattle.safety.specs.Chip.{key-at}
@@ -23,6 +24,10 @@ pub record Known (rack digest a b c : List ℕ) : Type 0 where
   pub a-at : key-at rack 0 ≡ a
   pub b-at : key-at rack 1 ≡ b
   pub c-at : key-at rack 2 ≡ c
+
+pub more-than-two : {rack digest a b c : List ℕ} → Known rack digest a b c → is-of-two rack ≡ false
+unfolding is-of-two
+more-than-two k = ap (λ (n : ℕ). eqb n 2) (k .size-is)
 
 -- opens, with its own name, both racks and all that a rack is taken apart by
 unfoldable taken-apart : ℕ

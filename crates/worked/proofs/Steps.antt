@@ -31,7 +31,7 @@ use Rattle.safety.specs.Calls.{Wake, lent, outcome-of, statements-in, for-signi
 use Rattle.worked.proofs.Strings.{rack-A, rack-B, ledger, entry, nonce, new-tail, digest-A, digest-B, grown-row, young-digest, grown-digest}
 use Rattle.worked.proofs.Strings.{empty-table, young-table, grown-table, unchecked, grown-block}
 use Rattle.worked.proofs.Digests.{tail-grows}
-use Rattle.worked.proofs.Racks.{known-A, known-B}
+use Rattle.worked.proofs.Racks.{known-A, known-B, more-than-two}
 use Rattle.worked.proofs.Rolls.{Page, young, grown, Kept, young-kept, grown-kept, block-cut, block-holds, roll-digest-is}
 use Rattle.worked.proofs.Rolls.{empty-fits, none-found, row-added, row-moved}
 use Rattle.worked.proofs.Passing.{end, also, lets-all, takes-effect, front, front-of-two}
@@ -66,7 +66,8 @@ founds-so who e =
       outcome-is =
           takes-effect _ _ _ _
           (lets-all
-          (also refl (also (ap not empty-fits) (also refl (also (ap not (known-A .rack-holds)) (also (ap not e) (also refl (also refl (also refl end)))))))))
+          (also refl (also (ap not empty-fits) (also refl (also (ap not (known-A .rack-holds)) (also (more-than-two known-A) (also (ap not e)
+          (also refl (also refl (also refl end))))))))))
           ∙ (λ i.
           let h = head-of 2 0 who (known-A .digest-is i) (known-A .digest-is i) no-digest no-digest in
           given (initialise-statement h empty-table) h empty-table (replicate 129 0));
@@ -127,7 +128,7 @@ leaves-so {p} who k =
     record {
       outcome-is =
           takes-effect _ _ _ _ (lets-all (also refl (also (ap not (k .fits)) end)))
-          ∙ takes-effect _ _ _ _ (lets-all (also refl (also (ap not (known-B .rack-holds)) end)))
+          ∙ takes-effect _ _ _ _ (lets-all (also refl (also (ap not (known-B .rack-holds)) (also (more-than-two known-B) end))))
           ∙ (λ i.
           let h = head-of 3 1 who digest-A digest-A no-digest (known-B .digest-is i) in
           given (last-words h (p .table)) h (p .table) (replicate 3713 0))
@@ -168,10 +169,10 @@ enters-so who e =
       outcome-is =
           takes-effect _ _ _ _
           (lets-all
-          (also refl (also (ap not empty-fits) (also refl (also (ap not (known-B .rack-holds)) (also (ap not e)
+          (also refl (also (ap not empty-fits) (also refl (also (ap not (known-B .rack-holds)) (also (more-than-two known-B) (also (ap not e)
           (also (λ i. cond (block-present i) (not (rack-present i)) (rack-present i))
           (also (λ i. not (rack-present i) && not (known-A .rack-holds i))
-          (also (λ i. not (block-present i) && not (block-holds grown-kept i)) end)))))))))
+          (also (λ i. not (block-present i) && not (block-holds grown-kept i)) end))))))))))
           ∙ (λ i.
           let k = lent (woken who) (replicate 129 0) in
           let r = roll-layout .cut grown-block in

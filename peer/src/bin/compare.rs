@@ -1,6 +1,6 @@
 //! This program runs the same calls on two parties and compares answer, head, table and output area in full.
 
-use peer::broken::SLIPS;
+use peer::broken::{SLIPS, SLIPS_OF_M_107};
 use peer::party::{Party, Peer};
 use peer::trial::lists::LISTS;
 use peer::trial::pairing::{Numbers, Pairing};
@@ -67,7 +67,7 @@ fn party(name: &str) -> Option<Box<dyn Party>> {
         #[cfg(library)]
         "library" => Some(Box::new(peer::library::Library)),
         _ => {
-            let slip = SLIPS.into_iter().find(|slip| format!("{slip:?}") == name)?;
+            let slip = SLIPS.into_iter().chain(SLIPS_OF_M_107).find(|slip| format!("{slip:?}") == name)?;
             Some(Box::new(slip))
         }
     }

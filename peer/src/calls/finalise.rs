@@ -1,16 +1,17 @@
 //! This file holds Finalise: "Finalise (next rack; 3,713)".
 
-use super::{ask_area, ask_sound, put, Tried};
+use super::{ask_area, ask_sound, put, take_rack, Tried};
 use crate::call::{Answer, Lent};
 use crate::rack;
 use crate::record::{ACTIVE, FINALISED};
 use crate::refusals::NOT_ACTIVE;
 use crate::roll;
 use crate::row::Row;
+use crate::rules::Rules;
 use crate::statement::{self, Statement, KIND_FINALISE};
 
-pub fn finalise(lent: &mut Lent, next: &[u8]) -> Tried {
-    // "1, 2; if already finalised, …; then 4, 6"
+pub fn finalise(rules: &dyn Rules, lent: &mut Lent, next: &[u8]) -> Tried {
+    // "1, 2; if already finalised, …; then 4, 6", and 38 "directly after 6"
     ask_area(lent, 3_713)?;
     ask_sound(lent)?;
     // "if already finalised, the earlier statement and roll again, the argument not read, marked as a repeat with nothing to sign"
@@ -20,7 +21,7 @@ pub fn finalise(lent: &mut Lent, next: &[u8]) -> Tried {
     if lent.head.status != ACTIVE {
         return Err(NOT_ACTIVE.into());
     }
-    rack::read(next)?;
+    take_rack(rules, next)?;
     lent.head.next = rack::digest(next);
     lent.head.status = FINALISED;
     Ok(put_last_words(lent))

@@ -1,22 +1,31 @@
 //! This file holds Initialise: "Initialise (identity, roll, previous rack, own rack; 129 bytes out)".
 
-use super::{ask_area, ask_sound, put, Tried};
+use super::{ask_area, ask_sound, put, take_rack, Tried};
 use crate::call::Lent;
 use crate::rack;
 use crate::record::{Head, ACTIVE, BLANK, PREPARED};
 use crate::refusals::{Refusal, NOT_BLANK, ONE_PRESENT_ALONE, OWN_KEY_MISSING};
 use crate::roll::{self, Roll};
 use crate::row::Row;
+use crate::rules::Rules;
 use crate::statement::{self, Statement, KIND_INITIALISE};
 
-pub fn initialise(lent: &mut Lent, identity: &[u8; 32], roll: &[u8], previous: &[u8], own: &[u8]) -> Tried {
-    // "1, 2, 3, own rack 6, 7, 8, previous rack 6, 15"
+pub fn initialise(
+    rules: &dyn Rules,
+    lent: &mut Lent,
+    identity: &[u8; 32],
+    roll: &[u8],
+    previous: &[u8],
+    own: &[u8],
+) -> Tried {
+    // "1, 2, 3, own rack 6, 7, 8, previous rack 6, 15", with 38 "directly after 6 for the own rack"
     ask_area(lent, 129)?;
     ask_sound(lent)?;
     if lent.head.status != BLANK {
         return Err(NOT_BLANK.into());
     }
-    if !rack::read(own)?.holds(&lent.head.key) {
+    let own_rack = take_rack(rules, own)?;
+    if !own_rack.holds(&lent.head.key) {
         return Err(OWN_KEY_MISSING.into());
     }
     // "One present alone is 8." Judged by length alone (reading C4).

@@ -22,9 +22,11 @@ pub use read::read;
 pub use wake::wake;
 
 use crate::call::{Answer, Lent};
+use crate::rack::{self, Rack};
 use crate::record::{is_sound, Head, ACTIVE};
-use crate::refusals::{Refusal, AREA_TOO_SHORT, NOT_ACTIVE, NOT_SOUND};
+use crate::refusals::{Refusal, AREA_TOO_SHORT, NOT_ACTIVE, NOT_SOUND, RACK_OF_TWO};
 use crate::row::Row;
+use crate::rules::Rules;
 use crate::statement::{self, Statement, KIND_READ};
 
 /// A call's way to its answer: `Err` is a refusal, met before anything lent was changed.
@@ -59,6 +61,15 @@ fn ask_active(lent: &Lent, number_above: usize) -> Result<(), Refusal> {
         return Err(NOT_ACTIVE);
     }
     Ok(())
+}
+
+/// 6, then 38: the own rack of Initialise, the next one of Finalise.
+fn take_rack(rules: &dyn Rules, bytes: &[u8]) -> Result<Rack, Refusal> {
+    let rack = rack::read(bytes)?;
+    if !rules.takes_rack_of(rack.count) {
+        return Err(RACK_OF_TWO);
+    }
+    Ok(rack)
 }
 
 /// The new, append or read statement about a row of this keeper.

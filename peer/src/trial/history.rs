@@ -52,7 +52,10 @@ fn raise(world: &mut World, prng: &mut Prng) -> Stage {
     }
     for keeper in 0..founders {
         if prng.chance(9, 10) {
-            found(world, keeper, &racks[0]);
+            match founders {
+                2 => world.found_before(keeper, &racks[0]),
+                _ => found(world, keeper, &racks[0]),
+            }
         }
     }
     Stage {
@@ -167,12 +170,18 @@ fn good_member(rack: &[u8], key: &[u8; 32]) -> bool {
     (0..rack[0]).any(|position| key_at(rack, position) == Some(*key))
 }
 
-/// The highest rows of all rolls handed to the same heir, also those that some of them lack, or just one of these rolls.
+/// The highest rows or just one of the rolls handed to the heir; now and then a row is dropped.
 fn propose(world: &World, seed: &Handed, prng: &mut Prng) -> Vec<Row> {
-    let mut rows = seed.rows.clone();
-    if prng.chance(1, 3) {
-        return rows;
+    let mut rows = if prng.chance(1, 3) { seed.rows.clone() } else { highest(world, seed) };
+    if prng.chance(1, 6) && !rows.is_empty() {
+        rows.remove(prng.below(rows.len()));
     }
+    rows
+}
+
+/// The highest rows of all rolls handed to the same heir, also those that some of them lack.
+fn highest(world: &World, seed: &Handed) -> Vec<Row> {
+    let mut rows = seed.rows.clone();
     let same = world.handed.iter().filter(|h| h.own == seed.own && h.next == seed.next);
     for other in same.flat_map(|handed| &handed.rows) {
         for row in rows.iter_mut().filter(|row| row.label == other.label && row.height < other.height) {

@@ -20,6 +20,7 @@ pub fn run(pairing: &mut Pairing, prng: &mut Prng) {
     second_heir(pairing, prng, true);
     second_heir(pairing, prng, false);
     replayed_reading(pairing, prng);
+    rack_of_two(pairing, prng);
 }
 
 const LABEL: [u8; 16] = [1; 16];
@@ -192,4 +193,31 @@ fn replayed_reading(pairing: &mut Pairing, prng: &mut Prng) {
     }
     world.verdict(&reading, &[0, 1, 2], part(&reading, 121));
     world.verdict(&reading, &[0, 1, 2], asked);
+}
+
+/// M-107: a rack of two, founded before it, is judged as before, may not hand over to two, and hands over to another size.
+fn rack_of_two(pairing: &mut Pairing, prng: &mut Prng) {
+    let mut world = World::new(pairing, true);
+    let keys = good::keys(prng, 2);
+    let previous = world.rack(&keys);
+    let mut statement = Vec::new();
+    for key in keys {
+        let keeper = world.wake(key);
+        world.found_before(keeper, &previous);
+        world.call(keeper, &Call::New { label: LABEL });
+        statement = append(&mut world, keeper, FIRST);
+    }
+    judge(&mut world, &statement, &[0, 1]);
+    let key = prng.array();
+    let heir = world.wake(key);
+    let own = world.rack(&[key]);
+    for keeper in [0, 1] {
+        world.call(keeper, &Call::Finalise { next: previous.clone() });
+        world.call(keeper, &Call::Finalise { next: own.clone() });
+    }
+    let roll = rows_of(&world, 0);
+    inherit(&mut world, heir, (&previous, &own), &roll, &[(0, roll.clone()), (1, roll.clone())]);
+    let active = world.keepers[heir].head.status == ACTIVE;
+    world.pairing.ask(active, "a rack of two hands over to another size");
+    contradict(&mut world, heir, SECOND);
 }

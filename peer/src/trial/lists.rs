@@ -1,4 +1,4 @@
-//! This file holds 01's list of refusals for each call, to which every answer is held.
+//! This file holds 01's list of refusals for each call, with 02's, to which every answer is held.
 
 use crate::call::Call;
 use crate::refusals::Refusal;
@@ -13,12 +13,12 @@ pub const LISTS: [(&str, &[Refusal]); 17] = [
     ("Read statement", &[23]),
     ("Write statement", &[23, 1]),
     ("Wake", &[2]),
-    ("Initialise", &[1, 2, 3, 6, 7, 8, 15]),
+    ("Initialise", &[1, 2, 3, 6, 38, 7, 8, 15]),
     ("New", &[1, 2, 4, 14, 9, 13]),
     ("Append", &[1, 2, 4, 10, 11, 12]),
     ("Read", &[1, 2, 4, 10]),
     ("Append and read", &[1, 2, 4, 10, 11, 12]),
-    ("Finalise", &[1, 2, 4, 6]),
+    ("Finalise", &[1, 2, 4, 6, 38]),
     ("Activate", &[2, 5, 6, 21, 22, 15, 16, 17, 18, 19, 20]),
     ("Bytes to check", &[1, 2, 5, 6, 21, 22, 15]),
     ("Verdict", &[6, 22, 23, 24, 16, 17, 18]),

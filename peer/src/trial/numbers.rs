@@ -66,7 +66,7 @@ fn known_answers(pairing: &mut Pairing, prng: &mut Prng) {
     pairing.ask(hex(&lent.table[0].tail) == tail, "a known tail");
     let row = Row { label: [1; 16], tail: [0x22; 32], height: 7 };
     let mut lent = good::lent(prng, ACTIVE, &[row], 3713);
-    pairing.expect("finalise", &mut lent, &Call::Finalise { next: good::rack(prng, 2) }, 0);
+    pairing.expect("finalise", &mut lent, &Call::Finalise { next: good::rack(prng, 3) }, 0);
     let roll = "f6049dd0121d470e296b116079228abf171dcb3e60483491166157748c4d4d51";
     pairing.ask(hex(&lent.area[97..129]) == roll, "a known roll digest");
     pairing.ask(lent.area[129..133] == [0, 1, 1, 0], "a known block header");

@@ -63,6 +63,7 @@ fn record_plans() -> Vec<Plan> {
         UNSOUND,
         &["3 prepared", "3 active", "3 finalised"],
         RACK_DAMAGES,
+        &["38 two"],
         &["7 own key"],
         &["8 roll alone", "8 rack alone"],
         &["6 previous n 0", "6 previous long", "6 previous not rising"],
@@ -78,7 +79,7 @@ fn record_plans() -> Vec<Plan> {
         &["12"],
     ];
     const READ: &[&[&str]] = &[AREA, UNSOUND, NOT_ACTIVE, &["10", "10 label zero"]];
-    const FINALISE: &[&[&str]] = &[AREA, UNSOUND, &["0 repeat"], &["4 blank", "4 prepared"], RACK_DAMAGES];
+    const FINALISE: &[&[&str]] = &[AREA, UNSOUND, &["0 repeat"], &["4 blank", "4 prepared"], RACK_DAMAGES, &["38 two"]];
     // A blank keeper has no ledgers; a label that is zero or absent has no row and no height.
     const NEW_APART: &[(&str, &str)] = &[("14", "9"), ("4 blank", "9"), ("4 blank", "13")];
     const APPEND_APART: &[(&str, &str)] = &[("10*", "11*"), ("10*", "12"), ("4 blank", "11*"), ("4 blank", "12")];
@@ -269,7 +270,7 @@ fn initialise(prng: &mut Prng, damages: &Damages) -> Case {
     if damages.has("7 own key") {
         lent.head.key = prng.array();
     }
-    let mut own = good::rack_of(&keys);
+    let mut own = if damages.has("38 two") { good::rack_of(&keys[..2]) } else { good::rack_of(&keys) };
     let own_ways: Vec<&str> = damages.0.iter().copied().filter(|name| !name.starts_with("6 previous")).collect();
     spoil_rack(&Damages(&own_ways), "6 ", &mut own);
     let mut previous = good::rack(prng, 3);
@@ -376,7 +377,7 @@ fn finalise(prng: &mut Prng, damages: &Damages) -> Case {
     if damages.has("0 repeat") && lent.head.status == ACTIVE {
         lent.head.status = FINALISED;
     }
-    let mut next = good::rack(prng, 3);
+    let mut next = good::rack(prng, if damages.has("38 two") { 2 } else { 3 });
     spoil_rack(damages, "6 ", &mut next);
     case(lent, Call::Finalise { next })
 }

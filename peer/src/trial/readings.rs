@@ -6,8 +6,8 @@ use super::pairing::Pairing;
 use super::prng::Prng;
 use super::scene::{Scene, Sizes};
 use crate::call::{AskVerdict, Call, Lent};
-use crate::rack::Rack;
-use crate::record::{ACTIVE, BLANK, FINALISED};
+use crate::rack::{Rack, MOST_KEYS};
+use crate::record::{ACTIVE, BLANK, FINALISED, PREPARED};
 use crate::refusals::Refusal;
 use crate::roll::{self, in_blocks};
 use crate::row::{appended, Row, TOP};
@@ -28,6 +28,9 @@ pub fn run(pairing: &mut Pairing, prng: &mut Prng) {
     handovers(pairing, prng);
     missing_rows(pairing, prng);
     verdicts(pairing, prng);
+    rack_sizes(pairing, prng);
+    racks_of_two(pairing, prng);
+    two_stay_valid(pairing, prng);
 }
 
 fn row(prng: &mut Prng, height: u64) -> Row {
@@ -80,7 +83,7 @@ fn lengths(pairing: &mut Pairing, prng: &mut Prng) {
         let rows = good::rows(prng, 2);
         let mut active = good::lent(prng, ACTIVE, &rows, 3713);
         pairing.expect("long", &mut active, &Call::Finalise { next: bytes.clone() }, 6);
-        let keys = good::keys(prng, 2);
+        let keys = good::keys(prng, 3);
         let (previous, own) = (good::rack_of(&keys), good::rack_of(&keys));
         let call = Call::Initialise { identity: [0; 32], roll: bytes, previous, own };
         pairing.expect("long", &mut good::woken(keys[0], 129), &call, 15);
@@ -354,4 +357,69 @@ fn verdicts(pairing: &mut Pairing, prng: &mut Prng) {
     pairing.expect("C30", lent, &ask(4, Statement { kind: KIND_FINALISE, ..stated }, stated.nonce, &all), 23);
     pairing.expect("C31", lent, &ask(3, stated, other, &[]), 24);
     pairing.expect("C31", lent, &ask(2, append, other, &all), 0);
+}
+
+/// M-107: of all sizes 38 is for two alone, in Initialise, founding or not, and in Finalise.
+fn rack_sizes(pairing: &mut Pairing, prng: &mut Prng) {
+    for n in 1..=MOST_KEYS {
+        let number = if n == 2 { 38 } else { 0 };
+        let keys = good::keys(prng, n);
+        let own = good::rack_of(&keys);
+        for (roll, previous) in [(Vec::new(), Vec::new()), (in_blocks(&[]), good::rack(prng, 3))] {
+            let call = Call::Initialise { identity: prng.array(), roll, previous, own: own.clone() };
+            pairing.expect("a size", &mut good::woken(keys[n - 1], 129), &call, number);
+        }
+        let mut lent = good::lent(prng, ACTIVE, &[], 3713);
+        pairing.expect("a size", &mut lent, &Call::Finalise { next: own }, number);
+    }
+}
+
+/// J1: 38 stands after 6 and before 7 and 8.
+fn racks_of_two(pairing: &mut Pairing, prng: &mut Prng) {
+    let keys = good::keys(prng, 2);
+    let two = good::rack_of(&keys);
+    let falling = [&[2][..], &keys[1], &keys[0]].concat();
+    let roll = in_blocks(&good::rows(prng, 2));
+    let cases: [(&[u8], [u8; 32], &[u8], Refusal); 5] = [
+        (&two, keys[0], &[], 38),
+        (&two, [0; 32], &[], 38),
+        (&two, keys[0], &roll, 38),
+        (&falling, keys[0], &[], 6),
+        (&two[..64], keys[0], &[], 6),
+    ];
+    for (own, key, roll, number) in cases {
+        let (roll, own) = (roll.to_vec(), own.to_vec());
+        let call = Call::Initialise { identity: [0; 32], roll, previous: Vec::new(), own };
+        pairing.expect("J1", &mut good::woken(key, 129), &call, number);
+    }
+    for (status, next, number) in [(ACTIVE, &two, 38), (ACTIVE, &falling, 6), (PREPARED, &two, 4)] {
+        let mut lent = good::lent(prng, status, &[], 3713);
+        pairing.expect("J1", &mut lent, &Call::Finalise { next: next.clone() }, number);
+    }
+}
+
+/// J2, J3: "Those already prepared or active go on"; "receipts and previous racks of two stay valid"; a repeat reads no argument.
+fn two_stay_valid(pairing: &mut Pairing, prng: &mut Prng) {
+    let keys = good::keys(prng, 3);
+    let two = good::rack(prng, 2);
+    let (roll, own) = (in_blocks(&good::rows(prng, 2)), good::rack_of(&keys));
+    let call = Call::Initialise { identity: prng.array(), roll, previous: two.clone(), own };
+    pairing.expect("J2", &mut good::woken(keys[1], 129), &call, 0);
+    let scene = Scene::good(prng, Sizes { previous: 2, own: 2, ..SMALL }, 1);
+    pairing.expect("J2", &mut scene.lent(129), &scene.bytes_to_check(0, 1), 0);
+    let mut lent = scene.lent(3713);
+    pairing.expect("J2", &mut lent, &scene.activate(), 0);
+    pairing.expect("J2", &mut lent, &Call::New { label: [0xfd; 16] }, 0);
+    pairing.expect("J2", &mut lent, &Call::Finalise { next: scene.own.clone() }, 38);
+    pairing.expect("J2", &mut lent, &Call::Finalise { next: good::rack(prng, 4) }, 0);
+    lent.head.next = good::digest(&two);
+    let reply = pairing.expect("J3", &mut lent, &Call::Finalise { next: two.clone() }, 0);
+    pairing.ask(reply.answer().repeat, "J3: a repeat, whatever the argument");
+    pairing.ask(lent.area[65..97] == good::digest(&two), "J3: the earlier next rack, of two");
+    let (identity, label) = (prng.array(), good::label(prng));
+    let stated =
+        Statement { kind: KIND_APPEND, identity, own: good::digest(&two), label, height: 1, ..Statement::ZERO };
+    let (statement, signers) = (statement::bytes(&stated), vec![0, 3, 1, 3]);
+    let ask = AskVerdict { identity, rack: two, kind: KIND_APPEND, label, nonce: [0; 16], statement, signers };
+    pairing.expect("J2", &mut good::only_area(0), &Call::Verdict(ask), 0);
 }

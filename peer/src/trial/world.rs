@@ -5,8 +5,10 @@ use super::good;
 use super::pairing::Pairing;
 use super::scene::{OldPart, Scene};
 use crate::call::{AskVerdict, Call, Lent, Reply};
+use crate::record::{Head, ACTIVE};
+use crate::roll;
 use crate::row::Row;
-use crate::statement::KIND_READ;
+use crate::statement::{self, Statement, KIND_INITIALISE, KIND_READ};
 use std::collections::HashMap;
 
 /// What a finalised keeper gave for signing.
@@ -62,6 +64,16 @@ impl<'p, 'a> World<'p, 'a> {
         let rack = good::rack_of(keys);
         self.racks.insert(good::digest(&rack), rack.clone());
         rack
+    }
+
+    /// Makes a woken keeper active in a rack of two that was founded before M-107: "Those already prepared or active go on".
+    pub fn found_before(&mut self, keeper: usize, rack: &[u8]) {
+        let head = &mut self.keepers[keeper].head;
+        let own = good::digest(rack);
+        *head = Head { status: ACTIVE, identity: own, own, ..*head };
+        let (kind, roll) = (KIND_INITIALISE, roll::digest(&[]));
+        let stated = Statement { kind, identity: own, own, roll, ..Statement::ZERO };
+        self.chips.sign(&head.key, &statement::bytes(&stated));
     }
 
     /// Performs a call at a keeper and lets its chip sign what is returned for signing.
