@@ -1,14 +1,28 @@
 /*
- * Mahqurith: the keeper's calls, the desk's verdict, the layouts and the hash, for C11 and C++17 on x86-64.
+ * Mahqurith: the keeper's calls, the desk's verdict, the layouts and the hash, for C11 and C++17 on x86-64. The archive
+ * has code for x86-64 and for no other processor.
  *
  * Every function accepts any values and any bytes, keeps nothing between calls, allocates nothing and ends. Faulty input
  * is refused with one of the numbers below. A refusal changes no byte of head, rows or area.
  *
  * Arguments come in one order: the keeper's record (head, rows and how many rows), what is asked at fixed sizes, the
- * messages (each a pointer and a length), the output area (a pointer and a length). A pointer is never null, also where
- * its length is 0, and head, rows and area never overlap one another or a message: this is all that a caller owes.
+ * messages (each a pointer and a length), the output area (a pointer and a length).
  *
  * An accepted call answers 0 and how many bytes it wrote: the first of the area. The rest of the area stays.
+ *
+ * What a caller owes, all of it:
+ *
+ * - A pointer that comes with a length (rows with how many, messages, the area) may be null where that length is 0:
+ *   founding has no roll and no previous rack. Any other pointer, head and digest among them, is not null.
+ * - The memory is there, for as many bytes or rows as the length says; head, rows, area and digest can be written.
+ * - Rows are aligned as C aligns a mahqurith_row: to eight bytes.
+ * - What is written overlaps nothing: head, rows, area and digest neither one another nor a message. Messages may
+ *   overlap each other.
+ * - One call at a time on a record: while a call runs, no other call and nothing else reads or writes its head, rows or
+ *   area or writes its messages, in whatever thread. Calls on different records may run side by side.
+ *
+ * What a box, a desk and a messenger must do around the calls is in docs/INTEGRATION.md; without it no signature is
+ * worth anything.
  */
 #ifndef MAHQURITH_H
 #define MAHQURITH_H
@@ -21,35 +35,83 @@
 extern "C" {
 #endif
 
-/* Answers: 0, or the refusal's number. Tests are made in the order that each call names; the first that fails answers. */
+/*
+ * The version of this header and of the archive that ./build puts beside it; they belong together. MINOR rises with what
+ * is added, so that a program for the earlier header is still right: a call, a name, a case that a call now accepts or now
+ * refuses (any number but 0 is a refusal). MAJOR rises, and MINOR begins at 0, with all else: a name, a struct, a size or
+ * the order of arguments that changes, or the bytes that are signed, stored or sent; boxes and desks of two MAJOR versions
+ * are not to be mixed.
+ */
+#define MAHQURITH_VERSION_MAJOR 1
+#define MAHQURITH_VERSION_MINOR 0
+
+/*
+ * Answers: 0, or the refusal's number; mahqurith_meaning says what each means. Tests are made in the order that each call
+ * names; the first that fails answers.
+ */
 enum {
     MAHQURITH_ACCEPTED = 0,
-    MAHQURITH_AREA_TOO_SHORT = 1,        /* output area shorter than the call's size below */
-    MAHQURITH_RECORD_NOT_SOUND = 2,      /* head and rows are no record, or the rows are not 63 */
-    MAHQURITH_NOT_BLANK = 3,             /* status is not blank */
-    MAHQURITH_NOT_ACTIVE = 4,            /* not active */
-    MAHQURITH_NOT_PREPARED = 5,          /* not prepared */
-    MAHQURITH_RACK_BROKEN = 6,           /* rack breaks the layout */
-    MAHQURITH_KEY_NOT_IN_RACK = 7,       /* own key not in own rack */
-    MAHQURITH_ROLL_OR_RACK_ALONE = 8,    /* roll without previous rack, or the reverse */
-    MAHQURITH_LEDGER_EXISTS = 9,         /* ledger exists */
-    MAHQURITH_NO_SUCH_LEDGER = 10,       /* no such ledger */
-    MAHQURITH_OUT_OF_ORDER = 11,         /* out of order; the present height is given */
-    MAHQURITH_HEIGHT_AT_TOP = 12,        /* height is 4,294,967,295 */
-    MAHQURITH_TABLE_FULL = 13,           /* 63 ledgers already */
-    MAHQURITH_LABEL_ZERO = 14,           /* label all zero */
-    MAHQURITH_ROLL_BROKEN = 15,          /* roll breaks the layout */
-    MAHQURITH_TOO_FEW = 16,              /* fewer entries than a majority */
-    MAHQURITH_NOT_ATTESTED = 17,         /* not attested */
-    MAHQURITH_SIGNATURE_NOT_VALID = 18,  /* finalise or receipt signature not valid */
-    MAHQURITH_INITIALISE_NOT_VALID = 19, /* initialise signature not valid */
-    MAHQURITH_NOT_DERIVED = 20,          /* roll not derived */
-    MAHQURITH_DIGEST_DIFFERS = 21,       /* rack digest differs from the record's */
-    MAHQURITH_LIST_BROKEN = 22,          /* bundle or signer list breaks the layout */
-    MAHQURITH_STATEMENT_NOT_ASKED = 23,  /* statement is not the one asked for: length, layout, kind, identity, rack digest or label */
-    MAHQURITH_NONCE_DIFFERS = 24,        /* nonce differs */
-    MAHQURITH_INPUT_TOO_LONG = 25        /* hash input over 65,536 bytes */
+    MAHQURITH_AREA_TOO_SHORT = 1,
+    MAHQURITH_RECORD_NOT_SOUND = 2,
+    MAHQURITH_NOT_BLANK = 3,
+    MAHQURITH_NOT_ACTIVE = 4,
+    MAHQURITH_NOT_PREPARED = 5,
+    MAHQURITH_RACK_BROKEN = 6,
+    MAHQURITH_KEY_NOT_IN_RACK = 7,
+    MAHQURITH_ROLL_OR_RACK_ALONE = 8,
+    MAHQURITH_LEDGER_EXISTS = 9,
+    MAHQURITH_NO_SUCH_LEDGER = 10,
+    MAHQURITH_OUT_OF_ORDER = 11,
+    MAHQURITH_HEIGHT_AT_TOP = 12,
+    MAHQURITH_TABLE_FULL = 13,
+    MAHQURITH_LABEL_ZERO = 14,
+    MAHQURITH_ROLL_BROKEN = 15,
+    MAHQURITH_TOO_FEW = 16,
+    MAHQURITH_NOT_ATTESTED = 17,
+    MAHQURITH_SIGNATURE_NOT_VALID = 18,
+    MAHQURITH_INITIALISE_NOT_VALID = 19,
+    MAHQURITH_NOT_DERIVED = 20,
+    MAHQURITH_DIGEST_DIFFERS = 21,
+    MAHQURITH_LIST_BROKEN = 22,
+    MAHQURITH_STATEMENT_NOT_ASKED = 23,
+    MAHQURITH_NONCE_DIFFERS = 24,
+    MAHQURITH_INPUT_TOO_LONG = 25
 };
+
+/* What an answer means, in English. Never null: a number that no call gives has a text that says so. */
+static inline const char *mahqurith_meaning(uint32_t number)
+{
+    switch (number) {
+    case MAHQURITH_ACCEPTED: return "accepted";
+    case MAHQURITH_AREA_TOO_SHORT: return "output area shorter than the call's size";
+    case MAHQURITH_RECORD_NOT_SOUND: return "record not sound";
+    case MAHQURITH_NOT_BLANK: return "status is not blank";
+    case MAHQURITH_NOT_ACTIVE: return "not active";
+    case MAHQURITH_NOT_PREPARED: return "not prepared";
+    case MAHQURITH_RACK_BROKEN: return "rack breaks the layout";
+    case MAHQURITH_KEY_NOT_IN_RACK: return "own key not in own rack";
+    case MAHQURITH_ROLL_OR_RACK_ALONE: return "roll without previous rack, or the reverse";
+    case MAHQURITH_LEDGER_EXISTS: return "ledger exists";
+    case MAHQURITH_NO_SUCH_LEDGER: return "no such ledger";
+    case MAHQURITH_OUT_OF_ORDER: return "out of order; the present height is given";
+    case MAHQURITH_HEIGHT_AT_TOP: return "height is 4,294,967,295";
+    case MAHQURITH_TABLE_FULL: return "63 ledgers already";
+    case MAHQURITH_LABEL_ZERO: return "label all zero";
+    case MAHQURITH_ROLL_BROKEN: return "roll breaks the layout";
+    case MAHQURITH_TOO_FEW: return "fewer entries than a majority";
+    case MAHQURITH_NOT_ATTESTED: return "not attested";
+    case MAHQURITH_SIGNATURE_NOT_VALID: return "finalise or receipt signature not valid";
+    case MAHQURITH_INITIALISE_NOT_VALID: return "initialise signature not valid";
+    case MAHQURITH_NOT_DERIVED: return "roll not derived";
+    case MAHQURITH_DIGEST_DIFFERS: return "rack digest differs from the record's";
+    case MAHQURITH_LIST_BROKEN: return "bundle or signer list breaks the layout";
+    case MAHQURITH_STATEMENT_NOT_ASKED:
+        return "statement is not the one asked for: length, layout, kind, identity, rack digest or label";
+    case MAHQURITH_NONCE_DIFFERS: return "nonce differs";
+    case MAHQURITH_INPUT_TOO_LONG: return "hash input over 65,536 bytes";
+    default: return "no answer of this library";
+    }
+}
 
 /* Sizes in bytes, and how many there are at most. */
 enum {
@@ -129,10 +191,13 @@ typedef struct {
  *
  * The chip signs, once each, the statements that Initialise, New, Append, Read, Append and read and Finalise write, and
  * nothing else: nothing after a refusal, nothing that is marked as a repeat, nothing that Bytes to check writes. Head and
- * rows are stored before a signature leaves the box.
+ * rows are durable before the chip signs.
  */
 
-/* Reads key. The record becomes blank, whatever it was. Refuses: 2, only where the rows are not 63. */
+/*
+ * Reads key. The record becomes blank, whatever it was: the key is one that the chip has just made, and never again one
+ * that was woken before. Refuses: 2, only where the rows are not 63.
+ */
 mahqurith_answer mahqurith_wake(mahqurith_head *head, mahqurith_row *rows, size_t row_count, mahqurith_asked asked);
 
 /*
@@ -163,8 +228,9 @@ mahqurith_answer mahqurith_append_and_read(mahqurith_head *head, mahqurith_row *
 
 /*
  * Area: MAHQURITH_FINALISED. Refuses: 1, 2, then 4, 6. Writes the statement, then the roll's blocks. The chip signs the
- * statement (the first MAHQURITH_HANDOVER bytes), then erases its key. A keeper that is finalised already answers with its
- * earlier statement and roll, does not read next, and marks the answer as a repeat: there is nothing to sign.
+ * statement (the first MAHQURITH_HANDOVER bytes), the box stores the signature, and only then the chip erases its key. A
+ * keeper that is finalised already answers with its earlier statement and roll, does not read next, and marks the answer
+ * as a repeat: there is nothing to sign.
  */
 mahqurith_answer mahqurith_finalise(mahqurith_head *head, mahqurith_row *rows, size_t row_count, const uint8_t *next,
                                     size_t next_length, uint8_t *area, size_t area_length);
@@ -271,7 +337,7 @@ typedef struct {
 mahqurith_statement_read mahqurith_read_statement(const uint8_t *bytes, size_t length);
 mahqurith_written mahqurith_write_statement(mahqurith_statement statement, uint8_t *area, size_t area_length);
 
-/* SHA-256 of FIPS 180-4, for messages of 0 to MAHQURITH_HASH_INPUT bytes. Refuses: 25. */
+/* SHA-256 of FIPS 180-4, for messages of 0 to MAHQURITH_HASH_INPUT bytes. Refuses: 25; the digest stays then. */
 uint32_t mahqurith_sha256(const uint8_t *message, size_t length, uint8_t digest[MAHQURITH_DIGEST]);
 
 #ifdef __cplusplus

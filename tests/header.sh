@@ -1,5 +1,6 @@
 #!/usr/bin/env bash
-# The header as C11 and as C++17 with all warnings as errors, and its sizes, offsets and constants against the library.
+# The header as C11 and as C++17 with all warnings as errors; its sizes, offsets, constants and meanings against the library; null pointers
+# where a length is 0.
 set -euo pipefail
 cd "$(dirname "$0")/.."
 .ci/need gcc g++ python3
@@ -15,11 +16,10 @@ warnings="-Wall -Wextra -Wpedantic -Wconversion -Wshadow -Wstrict-aliasing -Werr
 python3 tests/header/numbers.py >"$built/numbers.c"
 
 # shellcheck disable=SC2086 # lists of words
-for file in "$built/numbers.c" tests/header/layout.c; do
-    gcc -std=c11 $warnings -Wstrict-prototypes -I"$library" -c "$file" -o "$built/$(basename "$file" .c).o"
-    g++ -x c++ -std=c++17 $warnings -I"$library" -c "$file" -o "$built/$(basename "$file" .c)-cpp.o"
+for file in "$built/numbers.c" tests/header/layout.c tests/header/null.c; do
+    program=$built/$(basename "$file" .c)
+    gcc -std=c11 $warnings -Wstrict-prototypes -I"$library" -o "$program" "$file" "$library/libmahqurith.a"
+    g++ -x c++ -std=c++17 $warnings -I"$library" -o "$program-cpp" "$file" -x none "$library/libmahqurith.a"
+    "$program"
+    "$program-cpp"
 done
-gcc -o "$built/layout" "$built/layout.o" "$library/libmahqurith.a"
-g++ -o "$built/layout-cpp" "$built/layout-cpp.o" "$library/libmahqurith.a"
-"$built/layout"
-"$built/layout-cpp"

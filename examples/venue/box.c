@@ -18,7 +18,7 @@ static mahqurith_answer call(box *b, const request *q, uint8_t *area, size_t roo
     }
 }
 
-/* Nothing is signed after a refusal, and no repeat is. */
+/* Nothing is signed after a refusal, and no repeat is: with that goes the signature that was stored. */
 reply box_answer(box *b, const request *q) {
     uint8_t area[MAHQURITH_FINALISED];
     reply r = {.answer = call(b, q, area, sizeof area)};
@@ -26,12 +26,16 @@ reply box_answer(box *b, const request *q) {
         return r;
     add(&r.statement, area, q->kind == MAHQURITH_FINALISE ? MAHQURITH_HANDOVER : r.answer.written);
     add(&r.roll, area + r.statement.length, r.answer.written - r.statement.length);
-    if (r.answer.repeat)
+    if (r.answer.repeat) {
+        memcpy(r.signature, b->farewell, SIGNATURE);
         return r;
+    }
     r.is_signed = chip_sign(&b->chip, &r.statement, r.signature);
     must(r.is_signed, "a chip that is to sign has its key");
-    if (q->kind == MAHQURITH_FINALISE)
+    if (q->kind == MAHQURITH_FINALISE) {
+        memcpy(b->farewell, r.signature, SIGNATURE);
         chip_erase(&b->chip);
+    }
     return r;
 }
 

@@ -30,10 +30,10 @@ static void record(rack *r, const char *cue) {
     request q = desk_ask(&console, MAHQURITH_APPEND);
     digest_text(cue, q.asked.entry);
     server.cues[server.count++] = cue;
-    q.asked.expected = server.count;
+    q.asked.expected = console.seen.height + 1;
     pile p = messenger_carry(r, &q);
     mahqurith_finding found = desk_judge(&console, &console.list, &p);
-    must(desk_shows(&found, &server), "the desk accepts a cue");
+    must(desk_keeps(&console, &q, &found), "the desk accepts a cue");
     printf("%s. %zu of 5 boxes sign: recorded.\n", cue, p.count);
 }
 
@@ -47,7 +47,7 @@ static pile open_ledger(rack *r) {
     pile p = ask(r);
     mahqurith_finding found = desk_judge(&console, &console.list, &p);
     const uint8_t *tail = found.tail;
-    must(desk_shows(&found, &server), "the desk opens the ledger");
+    must(desk_opens(&console, &found, &server), "the desk opens the ledger");
     printf("The desk opens the ledger: %zu of 5 boxes reply and agree on %d cues, newest hash %02x%02x%02x%02x.\n"
            "The texts on the server fit this hash.\n", p.count, (int)found.height, tail[0], tail[1], tail[2], tail[3]);
     return p;
@@ -95,7 +95,9 @@ static void interval(void) {
     for (size_t i = 0; i < 4; i++)
         must(box_activate(&b.boxes[i], &bundle) == MAHQURITH_ACCEPTED, "a box is activated");
     b.boxes[4].silent = true;
-    console.list = b.list;
+    pile first = ask(&b);
+    mahqurith_finding found = desk_judge(&console, &b.list, &first);
+    must(desk_takes(&console, &b.list, &found), "the desk takes the new rack");
     puts("Boxes B1 to B5 take the newest list over and sign that they did, but do not use it yet.\n"
          "The messenger brings each of them a bundle: the signatures of both racks, and the cue that box A5 missed.\n"
          "Boxes B1 to B4 have their own chips check it and find all of it good: they are active.\n"
@@ -150,6 +152,7 @@ static void two_heirs(void) {
     reply again = box_answer(&a.boxes[0], &q);
     must(again.answer.number == MAHQURITH_ACCEPTED && again.answer.repeat && !again.is_signed, "a second finalise is a repeat");
     must(memcmp(&again.statement, &finals.replies[0].statement, sizeof(message)) == 0, "a second finalise gives the first statement");
+    must(memcmp(again.signature, finals.replies[0].signature, SIGNATURE) == 0, "and the first signature, which the box has stored");
     puts("   Not refused, and of no use: the box repeats its first statement, which names rack B, and signs nothing.");
 }
 

@@ -9,7 +9,7 @@
 #define RECORD(b) &(b)->head, (b)->rows, MAHQURITH_ROWS
 #define BYTES(m) (m).bytes, (m).length
 
-enum { BOXES = 5, SIGNATURE = 64, LONGEST = 4096 /* of the evening's messages */ };
+enum { BOXES = 5, LEAST = 3 /* of a rack that the desk takes without asking a person */, SIGNATURE = 64, LONGEST = 4096 /* of the evening's messages */ };
 
 typedef struct { size_t length; uint8_t bytes[LONGEST]; } message;
 typedef struct { EVP_PKEY *secret; /* null once it is erased */ uint8_t key[MAHQURITH_KEY]; } chip;
@@ -19,6 +19,7 @@ typedef struct {
     chip chip;
     mahqurith_head head; /* head and rows are kept over loss of power: what is written here is stored */
     mahqurith_row rows[MAHQURITH_ROWS];
+    uint8_t farewell[SIGNATURE]; /* on its finalise statement, stored before the key is erased */
 } box;
 
 /* A rack's list and its boxes, in the order of the list. */
@@ -50,6 +51,7 @@ typedef struct { size_t count; const char *cues[8]; } store;
 typedef struct {
     mahqurith_question question; /* the newest; its identity is kept for the whole tour */
     message list;                /* of the rack that the desk asks now */
+    mahqurith_finding seen;      /* height and tail in the newest verdict that the desk accepted */
 } desk;
 
 void must(bool holds, const char *what);
@@ -71,4 +73,6 @@ handover messenger_bundle(const rack *old, const rack *new, const pile *finals, 
 
 request desk_ask(desk *d, uint8_t kind);
 mahqurith_finding desk_judge(const desk *d, const message *list, const pile *p);
-bool desk_shows(const mahqurith_finding *found, const store *s);
+bool desk_keeps(desk *d, const request *q, const mahqurith_finding *found);
+bool desk_opens(desk *d, const mahqurith_finding *found, const store *s);
+bool desk_takes(desk *d, const message *list, const mahqurith_finding *found);

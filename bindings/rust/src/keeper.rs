@@ -9,7 +9,7 @@ const READING: usize = 137;
 const HANDOVER: usize = 129;
 const FINALISED: usize = 3713;
 
-/// A keeper's record: head and 63 rows. Store it before a signature on what a call gave leaves the box.
+/// A keeper's record: head and 63 rows. It is durable before the chip signs what a call gave: `docs/INTEGRATION.md`, "For the firmware of a box".
 ///
 /// ```
 /// use mahqurith::{Keeper, Rack, Refusal};
@@ -31,7 +31,7 @@ pub struct Keeper {
 /// What Finalise gives.
 #[derive(Clone, PartialEq, Eq, Debug)]
 pub struct Finalised {
-    /// The statement. The chip signs it, unless this is a repeat, and then erases its key.
+    /// The statement. The chip signs it, unless this is a repeat, and erases its key once the signature is stored.
     pub statement: [u8; HANDOVER],
     /// The roll's blocks, which are not signed.
     pub roll: Vec<u8>,
@@ -55,7 +55,7 @@ fn accepted(answer: Answer) -> Result<Answer, Refusal> {
 type OnLedger = unsafe extern "C" fn(*mut Head, *mut Row, usize, Asked, *mut u8, usize) -> Answer;
 
 impl Keeper {
-    /// A blank record with this key.
+    /// A blank record with this key, which the chip has just made: a key that was woken before is never woken again.
     pub fn wake(key: &Key) -> Keeper {
         let row = Row { label: [0; 16], tail: [0; 32], height: 0 };
         let none = [0; 32];
@@ -142,7 +142,7 @@ impl Keeper {
         Ok((receipt.try_into().expect("121 bytes"), reading.try_into().expect("137 bytes")))
     }
 
-    /// Finalise. The chip signs the statement unless it is a repeat, and erases its key.
+    /// Finalise. The chip signs the statement unless it is a repeat, the box stores the signature, and then the chip erases its key.
     pub fn finalise(&mut self, next: &[u8]) -> Result<Finalised, Refusal> {
         let mut area = [0; FINALISED];
         let answer = accepted(unsafe {

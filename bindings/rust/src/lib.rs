@@ -26,6 +26,9 @@
 
 #![warn(missing_docs)]
 
+#[cfg(not(target_arch = "x86_64"))]
+compile_error!("libmahqurith.a has code for x86-64 and for no other processor");
+
 mod desk;
 mod keeper;
 mod layouts;
@@ -51,6 +54,9 @@ pub type Nonce = [u8; 16];
 pub const ATTESTED: u8 = 1;
 /// The marks bit that says that the key's signature is valid.
 pub const VALID: u8 = 2;
+
+/// The version of this crate, whose first two numbers are those of the C header: its MAJOR and MINOR.
+pub const VERSION: &str = env!("CARGO_PKG_VERSION");
 
 /// SHA-256 of a message of at most 65,536 bytes.
 ///

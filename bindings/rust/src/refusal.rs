@@ -5,6 +5,10 @@ use std::fmt;
 macro_rules! refusals {
     ($($number:literal $name:ident $meaning:literal),* $(,)?) => {
         /// Why a call was refused. A refusal changed nothing.
+        ///
+        /// ```
+        /// assert_eq!(mahqurith::Refusal::NotActive.to_string(), "4: not active");
+        /// ```
         #[derive(Clone, Copy, PartialEq, Eq, Debug)]
         pub enum Refusal {
             $(#[doc = $meaning] $name,)*
@@ -45,7 +49,7 @@ macro_rules! refusals {
 }
 
 refusals! {
-    1 AreaTooShort "output area too short",
+    1 AreaTooShort "output area shorter than the call's size",
     2 RecordNotSound "record not sound",
     3 NotBlank "status is not blank",
     4 NotActive "not active",

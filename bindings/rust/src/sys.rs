@@ -1,4 +1,5 @@
-//! The C interface as `include/mahqurith.h` declares it. Pointers are never null, and head, rows and area do not overlap anything.
+//! The C interface as `include/mahqurith.h` declares it; "What a caller owes" stands there. Slices and borrows give all of it: an empty slice has a pointer that
+//! is not null, which is more than is asked, and `&mut` lets one call at a time have a record.
 
 /// A keeper's head.
 #[repr(C)]
