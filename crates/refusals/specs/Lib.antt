@@ -105,3 +105,15 @@ nonce-differs = 24
 -- hash input over 65,536 bytes
 abbrev pub input-too-long : ℕ
 input-too-long = 25
+
+-- text over 418 bytes
+abbrev pub text-too-long : ℕ
+text-too-long = 33
+
+-- every block of the store is used
+abbrev pub store-full : ℕ
+store-full = 34
+
+-- no undamaged block answers, and the store holds a damaged one
+abbrev pub block-damaged : ℕ
+block-damaged = 35
