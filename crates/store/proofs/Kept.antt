@@ -257,10 +257,10 @@ module _ (area label : List ℕ) (expected : ℕ) (text : List ℕ) (fixed : len
         other j m =
             or-false (answers label expected (block-at area j))
             (λ a.
-              let h = answers-height label expected (block-at area j) a in
-              let g = newest-greatest area label (blocks area) j m (answers-label label expected (block-at area j) a) in
-              let n = t .next in
-              omega arith)
+            let h = answers-height label expected (block-at area j) a in
+            let g = newest-greatest area label (blocks area) j m (answers-label label expected (block-at area j) a) in
+            let n = t .next in
+            omega arith)
 
     -- and a block that answered alone still does
     still-held : (name : List ℕ) (height : ℕ) (b : List ℕ) → Held area name height b → Held stored name height b
@@ -284,13 +284,13 @@ module _ (area label : List ℕ) (expected : ℕ) (text : List ℕ) (fixed : len
         fresh =
             or-false (answers name height new)
             (λ a.
-              let h = sym (says-height area label expected text fixed t) ∙ answers-height name height new a in
-              let e : label ≡ name = sym (says-label area label expected text fixed t) ∙ answers-label name height new a in
-              let here : label-in (block-at area (k .place)) ≡ label = ap label-in (k .there) ∙ answers-label name height b (k .answer) ∙ sym e in
-              let deep : height-in (block-at area (k .place)) ≡ height = ap height-in (k .there) ∙ answers-height name height b (k .answer) in
-              let g = newest-greatest area label (blocks area) (k .place) (k .within) here in
-              let n = t .next in
-              omega arith)
+            let h = sym (says-height area label expected text fixed t) ∙ answers-height name height new a in
+            let e : label ≡ name = sym (says-label area label expected text fixed t) ∙ answers-label name height new a in
+            let here : label-in (block-at area (k .place)) ≡ label = ap label-in (k .there) ∙ answers-label name height b (k .answer) ∙ sym e in
+            let deep : height-in (block-at area (k .place)) ≡ height = ap height-in (k .there) ∙ answers-height name height b (k .answer) in
+            let g = newest-greatest area label (blocks area) (k .place) (k .within) here in
+            let n = t .next in
+            omega arith)
 
         either : (j : ℕ) → j < blocks area → (j ≡ k .place → ⊥) → Dec (j < p) → Dec (p < j) → answers name height (block-at (put area (block-bytes * p) new) j) ≡ false
         either j m n (yes a) d = rw (put-elsewhere area p new l (t .room) j (λ e. omega arith)) (k .alone j m n)

@@ -1,9 +1,9 @@
 // The cabinet store of document 02, M-104: texts in blocks of 512 bytes in a lent area, appended and read back.
 mod appending;
 mod block;
-mod standing;
 mod reading;
 mod scan;
+mod standing;
 
 pub use appending::mahqurith_store_append;
 use checks::CHECKED;
