@@ -24,7 +24,7 @@ use Rattle.checks.specs.Check.{block-bytes}
 use Rattle.store.specs.Block.{most-text, label-in, height-in, digest-in, tail-in, text-in, sound, unused, damaged, block-of}
 use Rattle.store.specs.Area.{blocks, area-right, block-at, first-place, first-unused, first-damaged, holds-damaged, newest}
 use Rattle.store.specs.Append.{Appended, ready-tests, order-tests, room-tests, append-tests, block-appended, appending}
-use Rattle.store.specs.Read.{Copied, answers, first-answer, reading}
+use Rattle.store.specs.Read.{Copied, answers, first-answer, read-tests, reading}
 use Rattle.store.specs.Kept.{Call, append, read, after, later}
 use Rattle.store.proofs.Places.{first-within, first-holds, first-none, first-only, newest-greatest, newest-below}
 use Rattle.store.proofs.Blocks.{label-made, height-made, digest-made, tail-made, text-made, block-length, sound-made, sound-label, sound-height}
@@ -115,6 +115,28 @@ module _ (area label : List ℕ) (expected : ℕ) (text : List ℕ) where
         room = unused-within area (eqb-false (first-unused area (blocks area)) (blocks area) (f .0));
         leaves = leaves-block e;
       }
+
+read-number :
+    (area label : List ℕ) (height : ℕ) (output : List ℕ) (k : ℕ) → first (read-tests area label height output) ≡ k → reading area label height output .number ≡ k
+unfolding reading
+read-number area label height output zero e = rw e
+read-number area label height output (suc k) e = rw (e, ne-eqb (suc k) accepted (λ u. omega arith))
+
+read-leaves :
+    (area label : List ℕ) (height : ℕ) (output : List ℕ) (k : ℕ) → first (read-tests area label height output) ≡ k → (k ≡ accepted → ⊥)
+    → reading area label height output .output ≡ output
+unfolding reading
+read-leaves area label height output k e n = rw (e, ne-eqb k accepted n)
+
+-- nor does a refused read
+pub read-refused :
+    (area label : List ℕ) (height : ℕ) (output : List ℕ) → (reading area label height output .number ≡ accepted → ⊥)
+    → reading area label height output .output ≡ output
+read-refused area label height output n = go (first (read-tests area label height output)) refl
+  where
+    go : (k : ℕ) → first (read-tests area label height output) ≡ k → reading area label height output .output ≡ output
+    go zero e = absurd (n (read-number area label height output zero e))
+    go (suc k) e = read-leaves area label height output (suc k) e (λ u. omega arith)
 
 at-length : (area : List ℕ) (i : ℕ) → i < blocks area → length (block-at area i) ≡ block-bytes
 unfolding block-at
