@@ -1,13 +1,13 @@
--- `store::block::is_sound` meets its contract. Assumes nothing.
+-- `cabinet::block::is_sound` meets its contract. Assumes nothing.
 use borrow.Author.Needs.{needs}
 use mathlib.Core.Path.{_≡_, refl, sym, ap, ap₂, _∙_}
 use denote.Ref.{now}
 use mathlib.Core.Bool.{true}
 use borrow.Author.Tests.{not-true, not-false}
-use Rattle.store.specs.Block.{most-text, label-in, height-in, digest-in, tail-in, length-in, text-in, rest-in, layout-right, check-right, digest-right, sound, unused, damaged, block-of}
-use Rattle.store.proofs.Blocks.{laid-length}
-use Rattle.store.proofs.block.is_sound.Statement.{statement}
-use Rattle.store.proofs.block.is_sound.Tie as tie
+use Rattle.cabinet.specs.Block.{most-text, label-in, height-in, digest-in, tail-in, length-in, text-in, rest-in, layout-right, check-right, digest-right, sound, unused, damaged, block-of}
+use Rattle.cabinet.proofs.Blocks.{laid-length}
+use Rattle.cabinet.proofs.block.is_sound.Statement.{statement}
+use Rattle.cabinet.proofs.block.is_sound.Tie as tie
 
 is-laid-requires : tie.Need-is-laid-requires
 is-laid-requires c κs = search needs

@@ -21,7 +21,7 @@ use Rattle.hash.specs.Sha256.{sha256}
 use Rattle.rows.specs.Sizes.{top-height}
 use Rattle.checks.specs.Check.{block-bytes, checked-bytes, check, checked}
 use Rattle.checks.proofs.Checks.{checked-length, checked-front, checked-back, check-put}
-use Rattle.store.specs.Block.{most-text, text-place, label-in, height-in, digest-in, tail-in, length-in, text-in, rest-in, layout-right, check-right, digest-right, sound, block-of}
+use Rattle.cabinet.specs.Block.{most-text, text-place, label-in, height-in, digest-in, tail-in, length-in, text-in, rest-in, layout-right, check-right, digest-right, sound, block-of}
 
 module _ (label : List ℕ) (height : ℕ) (digest tail text : List ℕ) where
   body : List ℕ

@@ -1,4 +1,4 @@
--- `store::block::is_laid` meets its contract. Assumes nothing.
+-- `cabinet::block::is_laid` meets its contract. Assumes nothing.
 use mathlib.Core.Bool.{false}
 use borrow.Author.Needs.{needs}
 use mathlib.Core.Path.{_≡_, refl, sym, ap, ap₂, _∙_}
@@ -10,10 +10,10 @@ use borrow.Author.Tests.{eq-eqb, ne-eqb, le-leb, lt-leb, lt-ltb, le-ltb, not-tru
 use lib.ListN.{length, getD, take, drop, length-take, length-drop}
 use lib.Dec.{eqb, leb, ltb}
 use Rattle.octets.specs.Strings.{all-zero, same, put}
-use Rattle.store.specs.Block.{most-text, label-in, height-in, digest-in, tail-in, length-in, text-in, rest-in, layout-right, check-right, digest-right, sound, unused, damaged, block-of}
+use Rattle.cabinet.specs.Block.{most-text, label-in, height-in, digest-in, tail-in, length-in, text-in, rest-in, layout-right, check-right, digest-right, sound, unused, damaged, block-of}
 use Rattle.rows.specs.Sizes.{top-height}
-use Rattle.store.proofs.block.is_laid.Statement.{statement}
-use Rattle.store.proofs.block.is_laid.Tie as tie
+use Rattle.cabinet.proofs.block.is_laid.Statement.{statement}
+use Rattle.cabinet.proofs.block.is_laid.Tie as tie
 
 slice-aggregate-is-zero : tie.Need-slice-aggregate-is-zero
 slice-aggregate-is-zero c = simp length-take (omega arith)
