@@ -30,7 +30,8 @@ unfolding first-damaged
 returns c =
     let a = c .before .before .before .before .before .args in
     let l = c .before .before .before .loop in
-    sym (first-found (λ (i : ℕ). damaged (block-at (now (a .area)) i)) (a .n) (l .i) (omega arith) (l .inv .1) (sym (c .before .damaged-at .ensures) ∙ c .if1 .taken))
+    sym (first-found (λ (i : ℕ). damaged (block-at (now (a .area)) i)) (a .n) (l .i) (omega arith) (l .inv .1) (sym (c .before .damaged-at .ensures)
+    ∙ c .if1 .taken))
 
 add-i : tie.Need-add-i Inv-loop μ-loop
 add-i c = omega arith

@@ -30,7 +30,8 @@ unfolding first-unused
 returns c =
     let a = c .before .before .before .before .before .args in
     let l = c .before .before .before .loop in
-    sym (first-found (λ (i : ℕ). unused (block-at (now (a .area)) i)) (a .n) (l .i) (omega arith) (l .inv .1) (sym (c .before .unused-at .ensures) ∙ c .if1 .taken))
+    sym (first-found (λ (i : ℕ). unused (block-at (now (a .area)) i)) (a .n) (l .i) (omega arith) (l .inv .1) (sym (c .before .unused-at .ensures)
+    ∙ c .if1 .taken))
 
 add-i : tie.Need-add-i Inv-loop μ-loop
 add-i c = omega arith

@@ -60,7 +60,8 @@ returns-3 c =
     let h : c .before .before .before .before .before .before .before .before .before .number-at .result ≡ height-in b = c .before .before .before .before .before .before .before .before .before .number-at .ensures in
     let t : length (take 32 (drop 56 b)) ≡ 32 = simp (length-take, length-drop) (omega arith) in
     ap₂ (λ (k : ℕ) (l : List ℕ). record { height = k; tail = l }) h (c .before .copy-at .ensures ∙ put-all _ (take 32 (drop 56 b)) t)
-    ∙ sym (newer-moves (now (a .label)) (a .found) b (omega arith) (sym (c .before .before .before .before .before .is-same .ensures) ∙ not-false _ (c .before .before .before .before .if2 .left)))
+    ∙ sym (newer-moves (now (a .label)) (a .found) b (omega arith) (sym (c .before .before .before .before .before .is-same .ensures)
+    ∙ not-false _ (c .before .before .before .before .if2 .left)))
 
 pub newer-spec : {M : Type 1} → statement M
 newer-spec =
