@@ -1,12 +1,13 @@
 /*
- * Mahqurith: the keeper's calls, the desk's verdict, the layouts and the hash, for C11 and C++17 on x86-64. The archive
- * has code for x86-64 and for no other processor.
+ * Mahqurith: the keeper's calls, the desk's verdict, the messenger's store, the layouts and the hash, for C11 and C++17 on
+ * x86-64. The archive has code for x86-64 and for no other processor.
  *
  * Every function accepts any values and any bytes, keeps nothing between calls, allocates nothing and ends. Faulty input
- * is refused with one of the numbers below. A refusal changes no byte of head, rows or area.
+ * is refused with one of the numbers below. A refusal changes no byte of head, rows, area or output.
  *
- * Arguments come in one order: the keeper's record (head, rows and how many rows), what is asked at fixed sizes, the
- * messages (each a pointer and a length), the output area (a pointer and a length).
+ * Arguments come in one order: the keeper's record (head, rows and how many rows) or the store's area (a pointer and a
+ * length), what is asked at fixed sizes, the messages (each a pointer and a length), the output area (a pointer and a
+ * length).
  *
  * An accepted call answers 0 and how many bytes it wrote: the first of the area. The rest of the area stays.
  *
@@ -14,11 +15,12 @@
  *
  * - A pointer that comes with a length (rows with how many, messages, the area) may be null where that length is 0:
  *   founding has no roll and no previous rack. Any other pointer, head and digest among them, is not null.
- * - The memory is there, for as many bytes or rows as the length says; head, rows, area and digest can be written.
+ * - The memory is there, for as many bytes or rows as the length says; head, rows, area, output and digest can be written,
+ *   but of a read of the store its output alone.
  * - Rows are aligned as C aligns a mahqurith_row: to eight bytes.
- * - What is written overlaps nothing: head, rows, area and digest neither one another nor a message. Messages may
+ * - What is written overlaps nothing: head, rows, area, output and digest neither one another nor a message. Messages may
  *   overlap each other.
- * - One call at a time on a record: while a call runs, no other call and nothing else reads or writes its head, rows or
+ * - One call at a time on a record or a store: while a call runs, no other call and nothing else reads or writes its head, rows or
  *   area or writes its messages, in whatever thread. Calls on different records may run side by side.
  *
  * What a box, a desk and a messenger must do around the calls is in docs/INTEGRATION.md; without it no signature is

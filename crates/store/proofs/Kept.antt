@@ -21,13 +21,13 @@ use Rattle.hash.proofs.Promised.{sha256-length}
 use Rattle.rows.specs.Sizes.{label-bytes, top-height}
 use Rattle.rows.specs.Digests.{appended}
 use Rattle.checks.specs.Check.{block-bytes}
-use Rattle.store.specs.Block.{most-text, label-in, height-in, digest-in, tail-in, text-in, sound, unused, damaged, block-of}
+use Rattle.cabinet.specs.Block.{most-text, label-in, height-in, digest-in, tail-in, text-in, sound, unused, damaged, block-of}
 use Rattle.store.specs.Area.{blocks, area-right, block-at, first-place, first-unused, first-damaged, holds-damaged, newest}
 use Rattle.store.specs.Append.{Appended, ready-tests, order-tests, room-tests, append-tests, block-appended, appending}
 use Rattle.store.specs.Read.{Copied, answers, first-answer, read-tests, reading}
 use Rattle.store.specs.Kept.{Call, append, read, after, later}
 use Rattle.store.proofs.Places.{first-within, first-holds, first-none, first-only, newest-greatest, newest-below}
-use Rattle.store.proofs.Blocks.{label-made, height-made, digest-made, tail-made, text-made, block-length, sound-made, sound-label, sound-height}
+use Rattle.cabinet.proofs.Blocks.{label-made, height-made, digest-made, tail-made, text-made, block-length, sound-made, sound-label, sound-height}
 use Rattle.store.proofs.Tests.{ready-numbered, order-numbered, read-done}
 use Rattle.store.proofs.Puts.{whole-blocks, put-blocks, put-right, put-here, put-elsewhere}
 

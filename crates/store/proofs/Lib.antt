@@ -1,6 +1,5 @@
 -- The laws that the proofs of the store cite, and the theorems about its calls.
 pub mod Places
-pub mod Blocks
 pub mod Tests
 pub mod Puts
 pub mod Kept

@@ -11,7 +11,7 @@ use borrow.Author.Tests.{lt-ltb, le-ltb, ltb-true, ltb-false}
 use lib.Dec.{ltb}
 use Rattle.octets.specs.Strings.{same}
 use Rattle.octets.proofs.RoundTrips.{same-refl}
-use Rattle.store.specs.Block.{label-in, height-in, tail-in}
+use Rattle.cabinet.specs.Block.{label-in, height-in, tail-in}
 use Rattle.store.specs.Area.{block-at, first-place, newer, newest}
 use Rattle.store.specs.declared.Newest.{Newest}
 

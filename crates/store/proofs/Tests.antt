@@ -12,7 +12,7 @@ use Rattle.refusals.specs.Order.{Test, _⇒_, first}
 use Rattle.refusals.proofs.Orders.{numbered, passes, stops, goes-on}
 use Rattle.octets.specs.Strings.{put}
 use Rattle.checks.specs.Check.{block-bytes}
-use Rattle.store.specs.Block.{most-text}
+use Rattle.cabinet.specs.Block.{most-text}
 use Rattle.store.specs.Area.{blocks, area-right, block-at, first-unused, holds-damaged, newest}
 use Rattle.store.specs.Append.{Appended, ready-tests, order-tests, room-tests, append-tests, block-appended, shown, appending}
 use Rattle.store.specs.Read.{Copied, first-answer, read-tests, reading}

@@ -12,7 +12,7 @@ use Rattle.hash.specs.Sha256.{sha256}
 use Rattle.rows.specs.Sizes.{top-height}
 use Rattle.rows.specs.Digests.{appended}
 use Rattle.checks.specs.Check.{block-bytes}
-use Rattle.store.specs.Block.{most-text, block-of}
+use Rattle.cabinet.specs.Block.{most-text, block-of}
 use Rattle.store.specs.Area.{blocks, area-right, first-unused, holds-damaged, newest}
 
 -- an answer, with 11 the label's greatest height, and the area as the call leaves it

@@ -7,7 +7,7 @@ use lib.Dec.{eqb, leb, ltb}
 use Rattle.octets.specs.Strings.{same}
 use Rattle.rows.specs.Sizes.{tail-bytes}
 use Rattle.checks.specs.Check.{block-bytes}
-use Rattle.store.specs.Block.{label-in, height-in, tail-in, unused, damaged}
+use Rattle.cabinet.specs.Block.{label-in, height-in, tail-in, unused, damaged}
 use Rattle.store.specs.declared.Newest.{Newest}
 
 abbrev pub most-blocks : ℕ

@@ -8,7 +8,7 @@ use Rattle.refusals.specs.{accepted, area-too-short, record-not-sound, no-such-
 use Rattle.refusals.specs.Order.{Test, _⇒_, first}
 use Rattle.octets.specs.Strings.{same, put}
 use Rattle.checks.specs.Check.{block-bytes}
-use Rattle.store.specs.Block.{label-in, height-in, sound}
+use Rattle.cabinet.specs.Block.{label-in, height-in, sound}
 use Rattle.store.specs.Area.{blocks, area-right, block-at, first-place, holds-damaged}
 
 -- an answer, how many bytes are written, and the output as the call leaves it

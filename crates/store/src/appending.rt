@@ -1,12 +1,12 @@
 // The append.
 use crate::Answer;
-use crate::MOST_TEXT;
 use crate::Place;
-use crate::block::made_block;
 use crate::scan::first_damaged;
 use crate::scan::first_unused;
 use crate::scan::is_area;
 use crate::scan::newest;
+use cabinet::MOST_TEXT;
+use cabinet::made_block;
 use checks::BLOCK;
 use checks::digest_of;
 use octets::copy_at;

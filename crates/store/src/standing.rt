@@ -1,10 +1,10 @@
 // One block of an area: whether it is unused, damaged, or the one asked for, and whether it is newer than what was found.
-use crate::HEIGHT_PLACE;
-use crate::LENGTH_PLACE;
 use crate::Newest;
-use crate::TAIL_PLACE;
-use crate::block::is_damaged;
-use crate::block::is_sound;
+use cabinet::HEIGHT_PLACE;
+use cabinet::LENGTH_PLACE;
+use cabinet::TAIL_PLACE;
+use cabinet::is_damaged;
+use cabinet::is_sound;
 use checks::BLOCK;
 use octets::copy_at;
 use octets::is_same;
@@ -16,7 +16,7 @@ ghost use mathlib.Core.Path.{_≡_};
 ghost use Prim.Native.Nat.{_+_, _*_, _≤_};
 ghost use lib.ListN.{length};
 ghost use Rattle.checks.specs.Check.{block-bytes};
-ghost use Rattle.store.specs.Block.{unused, damaged};
+ghost use Rattle.cabinet.specs.Block.{unused, damaged};
 ghost use Rattle.store.specs.Area.{block-at, newer};
 ghost use Rattle.store.specs.Read.{answers};
 

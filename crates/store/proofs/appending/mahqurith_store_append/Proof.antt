@@ -9,7 +9,7 @@ use borrow.Author.Tests.{eq-eqb, ne-eqb, le-leb, lt-leb, lt-ltb, le-ltb, not-tru
 use lib.ListN.{length, getD, take, drop, length-take, length-drop}
 use Rattle.octets.specs.Strings.{all-zero, same, put}
 use Rattle.hash.specs.Sha256.{sha256}
-use Rattle.store.specs.Block.{most-text, label-in, height-in, digest-in, tail-in, length-in, text-in, rest-in, layout-right, check-right, digest-right, sound, unused, damaged, block-of}
+use Rattle.cabinet.specs.Block.{most-text, label-in, height-in, digest-in, tail-in, length-in, text-in, rest-in, layout-right, check-right, digest-right, sound, unused, damaged, block-of}
 use Rattle.store.specs.Area.{blocks, area-right, block-at, first-place, first-unused, first-damaged, holds-damaged, newer, newest}
 use Rattle.checks.specs.Check.{block-bytes, checked-bytes, check, checked}
 use Rattle.store.specs.declared.Answer.{Answer}
@@ -38,7 +38,8 @@ same-length c = search needs
 returns : tie.Need-returns
 returns c =
     let a = c .before .before .before .before .before .before .before .before .args in
-    ap (λ (r : Answer). record { number = r .number; written = r .written; height = r .height; area = now (a .area) }) (c .refusal .ensures) ∙ append-unready (now (a .area)) (a .asked .label) (a .asked .height) (now (a .text)) _ (c .before .before .unready .ensures) (c .before .if1 .taken)
+    ap (λ (r : Answer). record { number = r .number; written = r .written; height = r .height; area = now (a .area) }) (c .refusal .ensures)
+    ∙ append-unready (now (a .area)) (a .asked .label) (a .asked .height) (now (a .text)) _ (c .before .before .unready .ensures) (c .before .if1 .taken)
 
 slice-aggregate-newest : tie.Need-slice-aggregate-newest
 slice-aggregate-newest c = search needs
@@ -81,7 +82,8 @@ returns-3 c =
     let h : c .before .before .before .before .before .before .newest .result ≡ newest (now (a .area)) (a .asked .label) (blocks (now (a .area))) = c .before .before .before .before .before .before .newest .ensures in
     let f = c .before .before .before .before .before .unordered .ensures ∙ ap (λ (m : Newest). first (order-tests (a .asked .height) (m .height))) h in
     let u : c .before .before .first-unused .result ≡ first-unused (now (a .area)) (blocks (now (a .area))) = c .before .before .first-unused .ensures in
-    ap (λ (r : Answer). record { number = r .number; written = r .written; height = r .height; area = now (a .area) }) (c .refusal3 .ensures) ∙ append-full (now (a .area)) (a .asked .label) (a .asked .height) (now (a .text)) _ (c .before .before .before .before .before .before .before .before .before .before .unready .ensures) (c .before .before .before .before .before .before .before .before .before .if1 .left) _ f (c .before .before .before .before .if2 .left) (sym u ∙ c .before .if3 .taken)
+    ap (λ (r : Answer). record { number = r .number; written = r .written; height = r .height; area = now (a .area) }) (c .refusal3 .ensures)
+    ∙ append-full (now (a .area)) (a .asked .label) (a .asked .height) (now (a .text)) _ (c .before .before .before .before .before .before .before .before .before .before .unready .ensures) (c .before .before .before .before .before .before .before .before .before .if1 .left) _ f (c .before .before .before .before .if2 .left) (sym u ∙ c .before .if3 .taken)
 
 digest-of-requires : tie.Need-digest-of-requires
 digest-of-requires c κs =
@@ -128,7 +130,8 @@ unfolding blocks block-appended
 returns-4 c =
     let a = c .before .before .before .before .before .before .before .before .before .before .before .before .before .before .before .before .before .before .before .before .before .before .before .before .before .args in
     let h : c .before .before .before .before .before .before .before .before .before .before .before .before .before .before .before .newest .result ≡ newest (now (a .area)) (a .asked .label) (blocks (now (a .area))) = c .before .before .before .before .before .before .before .before .before .before .before .before .before .before .before .newest .ensures in
-    let f = c .before .before .before .before .before .before .before .before .before .before .before .before .before .before .unordered .ensures ∙ ap (λ (m : Newest). first (order-tests (a .asked .height) (m .height))) h in
+    let f = c .before .before .before .before .before .before .before .before .before .before .before .before .before .before .unordered .ensures
+    ∙ ap (λ (m : Newest). first (order-tests (a .asked .height) (m .height))) h in
     let u : c .before .before .before .before .before .before .before .before .before .before .before .first-unused .result ≡ first-unused (now (a .area)) (blocks (now (a .area))) = c .before .before .before .before .before .before .before .before .before .before .before .first-unused .ensures in
     let d : c .before .before .before .before .before .before .before .before .digest-of .result ≡ sha256 (now (a .text)) = c .before .before .before .before .before .before .before .before .digest-of .ensures in
     let b = c .before .before .before .before .before .before .made-block .ensures

@@ -25,7 +25,8 @@ answer-requires c κs = search needs
 returns : tie.Need-returns
 returns c =
     let a = c .before .before .before .before .args in
-    ap (λ (r : Answer). record { number = r .number; written = r .written; height = r .height; output = now (a .output) }) (c .answer .ensures) ∙ read-short (now (a .area)) (a .asked .label) (a .asked .height) (now (a .output)) (c .before .if1 .taken)
+    ap (λ (r : Answer). record { number = r .number; written = r .written; height = r .height; output = now (a .output) }) (c .answer .ensures)
+    ∙ read-short (now (a .area)) (a .asked .label) (a .asked .height) (now (a .output)) (c .before .if1 .taken)
 
 is-area-requires : tie.Need-is-area-requires
 is-area-requires c κs = search needs
@@ -36,7 +37,8 @@ answer-requires-2 c κs = search needs
 returns-2 : tie.Need-returns-2
 returns-2 c =
     let a = c .before .before .before .before .before .before .args in
-    ap (λ (r : Answer). record { number = r .number; written = r .written; height = r .height; output = now (a .output) }) (c .answer2 .ensures) ∙ read-unsound (now (a .area)) (a .asked .label) (a .asked .height) (now (a .output)) (c .before .before .before .if1 .left) (sym (c .before .before .is-area .ensures) ∙ not-true _ (c .before .if2 .taken))
+    ap (λ (r : Answer). record { number = r .number; written = r .written; height = r .height; output = now (a .output) }) (c .answer2 .ensures)
+    ∙ read-unsound (now (a .area)) (a .asked .label) (a .asked .height) (now (a .output)) (c .before .before .before .if1 .left) (sym (c .before .before .is-area .ensures) ∙ not-true _ (c .before .if2 .taken))
 
 slice-aggregate-first-answer : tie.Need-slice-aggregate-first-answer
 slice-aggregate-first-answer c = search needs
@@ -55,7 +57,8 @@ unfolding blocks holds-damaged
 returns-3 c =
     let a = c .before .before .before .before .before .before .before .before .before .before .before .before .args in
     let f : c .before .before .before .before .first-answer .result ≡ first-answer (now (a .area)) (a .asked .label) (a .asked .height) (blocks (now (a .area))) = c .before .before .before .before .first-answer .ensures in
-    ap (λ (r : Answer). record { number = r .number; written = r .written; height = r .height; output = now (a .output) }) (c .answer3 .ensures) ∙ read-damaged (now (a .area)) (a .asked .label) (a .asked .height) (now (a .output)) (c .before .before .before .before .before .before .before .before .before .if1 .left) (sym (c .before .before .before .before .before .before .before .before .is-area .ensures) ∙ not-false _ (c .before .before .before .before .before .before .before .if2 .left)) (sym f ∙ c .before .before .before .if3 .taken) (ap (λ (m : ℕ). ltb m (blocks (now (a .area)))) (sym (c .before .before .first-damaged .ensures)) ∙ lt-ltb _ _ (c .before .if4 .taken))
+    ap (λ (r : Answer). record { number = r .number; written = r .written; height = r .height; output = now (a .output) }) (c .answer3 .ensures)
+    ∙ read-damaged (now (a .area)) (a .asked .label) (a .asked .height) (now (a .output)) (c .before .before .before .before .before .before .before .before .before .if1 .left) (sym (c .before .before .before .before .before .before .before .before .is-area .ensures) ∙ not-false _ (c .before .before .before .before .before .before .before .if2 .left)) (sym f ∙ c .before .before .before .if3 .taken) (ap (λ (m : ℕ). ltb m (blocks (now (a .area)))) (sym (c .before .before .first-damaged .ensures)) ∙ lt-ltb _ _ (c .before .if4 .taken))
 
 answer-requires-4 : tie.Need-answer-requires-4
 answer-requires-4 c κs = search needs
@@ -65,7 +68,8 @@ unfolding blocks holds-damaged
 returns-4 c =
     let a = c .before .before .before .before .before .before .before .before .before .before .before .before .args in
     let f : c .before .before .before .before .first-answer .result ≡ first-answer (now (a .area)) (a .asked .label) (a .asked .height) (blocks (now (a .area))) = c .before .before .before .before .first-answer .ensures in
-    ap (λ (r : Answer). record { number = r .number; written = r .written; height = r .height; output = now (a .output) }) (c .answer4 .ensures) ∙ read-none (now (a .area)) (a .asked .label) (a .asked .height) (now (a .output)) (c .before .before .before .before .before .before .before .before .before .if1 .left) (sym (c .before .before .before .before .before .before .before .before .is-area .ensures) ∙ not-false _ (c .before .before .before .before .before .before .before .if2 .left)) (sym f ∙ c .before .before .before .if3 .taken) (ap (λ (m : ℕ). ltb m (blocks (now (a .area)))) (sym (c .before .before .first-damaged .ensures)) ∙ le-ltb _ _ (c .before .if4 .left))
+    ap (λ (r : Answer). record { number = r .number; written = r .written; height = r .height; output = now (a .output) }) (c .answer4 .ensures)
+    ∙ read-none (now (a .area)) (a .asked .label) (a .asked .height) (now (a .output)) (c .before .before .before .before .before .before .before .before .before .if1 .left) (sym (c .before .before .before .before .before .before .before .before .is-area .ensures) ∙ not-false _ (c .before .before .before .before .before .before .before .if2 .left)) (sym f ∙ c .before .before .before .if3 .taken) (ap (λ (m : ℕ). ltb m (blocks (now (a .area)))) (sym (c .before .before .first-damaged .ensures)) ∙ le-ltb _ _ (c .before .if4 .left))
 
 mul-from : tie.Need-mul-from
 unfolding blocks first-answer

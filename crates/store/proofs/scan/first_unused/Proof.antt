@@ -5,7 +5,7 @@ use Prim.Native.Nat.{ℕ, _+_, _-_, _*_, _≤_}
 use native.Mathlib.Omega.{arith}
 use denote.Ref.{now}
 use lib.ListN.{length, getD, take, drop, length-take, length-drop}
-use Rattle.store.specs.Block.{most-text, label-in, height-in, digest-in, tail-in, length-in, text-in, rest-in, layout-right, check-right, digest-right, sound, unused, damaged, block-of}
+use Rattle.cabinet.specs.Block.{most-text, label-in, height-in, digest-in, tail-in, length-in, text-in, rest-in, layout-right, check-right, digest-right, sound, unused, damaged, block-of}
 use Rattle.store.specs.Area.{blocks, area-right, block-at, first-place, first-unused, first-damaged, holds-damaged, newer, newest}
 use Rattle.store.specs.Read.{answers, first-answer}
 use Rattle.store.proofs.Places.{first-next, first-found}
@@ -30,7 +30,8 @@ unfolding first-unused
 returns c =
     let a = c .before .before .before .before .before .args in
     let l = c .before .before .before .loop in
-    sym (first-found (λ (i : ℕ). unused (block-at (now (a .area)) i)) (a .n) (l .i) (omega arith) (l .inv .1) (sym (c .before .unused-at .ensures) ∙ c .if1 .taken))
+    sym (first-found (λ (i : ℕ). unused (block-at (now (a .area)) i)) (a .n) (l .i) (omega arith) (l .inv .1) (sym (c .before .unused-at .ensures)
+    ∙ c .if1 .taken))
 
 add-i : tie.Need-add-i Inv-loop μ-loop
 add-i c = omega arith

@@ -9,7 +9,7 @@ use borrow.Author.Tests.{eq-eqb, ne-eqb, le-leb, lt-leb, lt-ltb, le-ltb, not-tru
 use lib.ListN.{length, getD, take, drop, length-take, length-drop}
 use lib.Dec.{eqb, leb, ltb}
 use Rattle.octets.specs.Strings.{all-zero, same, put}
-use Rattle.store.specs.Block.{most-text, label-in, height-in, digest-in, tail-in, length-in, text-in, rest-in, layout-right, check-right, digest-right, sound, unused, damaged, block-of}
+use Rattle.cabinet.specs.Block.{most-text, label-in, height-in, digest-in, tail-in, length-in, text-in, rest-in, layout-right, check-right, digest-right, sound, unused, damaged, block-of}
 use Rattle.store.specs.Read.{answers}
 use Rattle.store.proofs.standing.is_asked.Statement.{statement}
 use Rattle.store.proofs.standing.is_asked.Tie as tie
@@ -33,7 +33,8 @@ returns-2 : tie.Need-returns-2
 unfolding answers height-in label-in
 returns-2 c =
     let a = c .before .before .before .before .before .before .before .args in
-    rw (ap (λ (k : ℕ). eqb k (a .height)) (sym (c .before .before .before .before .number-at .ensures)) ∙ eq-eqb _ (a .height) (c .before .before .before .if1 .left), sym (c .before .is-same .ensures) ∙ not-true _ (c .if2 .taken))
+    rw (ap (λ (k : ℕ). eqb k (a .height)) (sym (c .before .before .before .before .number-at .ensures))
+    ∙ eq-eqb _ (a .height) (c .before .before .before .if1 .left), sym (c .before .is-same .ensures) ∙ not-true _ (c .if2 .taken))
 
 is-sound-requires : tie.Need-is-sound-requires
 is-sound-requires c κs = search needs
@@ -42,7 +43,8 @@ returns-3 : tie.Need-returns-3
 unfolding answers height-in label-in
 returns-3 c =
     let a = c .before .before .before .before .before .before .before .before .args in
-    rw (ap (λ (k : ℕ). eqb k (a .height)) (sym (c .before .before .before .before .before .number-at .ensures)) ∙ eq-eqb _ (a .height) (c .before .before .before .before .if1 .left), sym (c .before .before .is-same .ensures) ∙ not-false _ (c .before .if2 .left))
+    rw (ap (λ (k : ℕ). eqb k (a .height)) (sym (c .before .before .before .before .before .number-at .ensures))
+    ∙ eq-eqb _ (a .height) (c .before .before .before .before .if1 .left), sym (c .before .before .is-same .ensures) ∙ not-false _ (c .before .if2 .left))
     (c .is-sound .ensures)
 
 pub is-asked-spec : {M : Type 1} → statement M

@@ -9,7 +9,7 @@ use borrow.Author.Tests.{eq-eqb, ne-eqb, le-leb, lt-leb, lt-ltb, le-ltb, not-tru
 use lib.ListN.{length, getD, take, drop, length-take, length-drop}
 use lib.Dec.{eqb, leb, ltb}
 use Rattle.octets.specs.Strings.{all-zero, same, put}
-use Rattle.store.specs.Block.{most-text, label-in, height-in, digest-in, tail-in, length-in, text-in, rest-in, layout-right, check-right, digest-right, sound, unused, damaged, block-of}
+use Rattle.cabinet.specs.Block.{most-text, label-in, height-in, digest-in, tail-in, length-in, text-in, rest-in, layout-right, check-right, digest-right, sound, unused, damaged, block-of}
 use Rattle.store.specs.Area.{blocks, area-right, block-at, first-place, first-unused, first-damaged, holds-damaged, newer, newest}
 use Rattle.octets.proofs.Puts.{put-all}
 use Rattle.store.proofs.Places.{newer-stays, newer-other, newer-moves}
@@ -60,7 +60,8 @@ returns-3 c =
     let h : c .before .before .before .before .before .before .before .before .before .number-at .result ≡ height-in b = c .before .before .before .before .before .before .before .before .before .number-at .ensures in
     let t : length (take 32 (drop 56 b)) ≡ 32 = simp (length-take, length-drop) (omega arith) in
     ap₂ (λ (k : ℕ) (l : List ℕ). record { height = k; tail = l }) h (c .before .copy-at .ensures ∙ put-all _ (take 32 (drop 56 b)) t)
-    ∙ sym (newer-moves (now (a .label)) (a .found) b (omega arith) (sym (c .before .before .before .before .before .is-same .ensures) ∙ not-false _ (c .before .before .before .before .if2 .left)))
+    ∙ sym (newer-moves (now (a .label)) (a .found) b (omega arith) (sym (c .before .before .before .before .before .is-same .ensures)
+    ∙ not-false _ (c .before .before .before .before .if2 .left)))
 
 pub newer-spec : {M : Type 1} → statement M
 newer-spec =

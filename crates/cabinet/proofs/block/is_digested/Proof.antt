@@ -1,4 +1,4 @@
--- `store::block::is_digested` meets its contract. Assumes nothing.
+-- `cabinet::block::is_digested` meets its contract. Assumes nothing.
 use borrow.Author.Needs.{needs}
 use mathlib.Core.Path.{_≡_, refl, sym, ap, ap₂, _∙_}
 use mathlib.Core.List.{List}
@@ -7,10 +7,10 @@ use native.Mathlib.Omega.{arith}
 use denote.Ref.{now}
 use lib.ListN.{length, getD, take, drop, length-take, length-drop}
 use Rattle.octets.specs.Strings.{all-zero, same, put}
-use Rattle.store.specs.Block.{most-text, label-in, height-in, digest-in, tail-in, length-in, text-in, rest-in, layout-right, check-right, digest-right, sound, unused, damaged, block-of}
+use Rattle.cabinet.specs.Block.{most-text, label-in, height-in, digest-in, tail-in, length-in, text-in, rest-in, layout-right, check-right, digest-right, sound, unused, damaged, block-of}
 use Rattle.hash.specs.Sha256.{sha256}
-use Rattle.store.proofs.block.is_digested.Statement.{statement}
-use Rattle.store.proofs.block.is_digested.Tie as tie
+use Rattle.cabinet.proofs.block.is_digested.Statement.{statement}
+use Rattle.cabinet.proofs.block.is_digested.Tie as tie
 
 text-length-requires : tie.Need-text-length-requires
 text-length-requires c κs = search needs

@@ -1,4 +1,4 @@
--- `store::block::is_checked` meets its contract. Assumes nothing.
+-- `cabinet::block::is_checked` meets its contract. Assumes nothing.
 use lib.Seq.{take-all}
 use borrow.Author.Needs.{needs}
 use mathlib.Core.Path.{_≡_, refl, sym, ap, ap₂, _∙_}
@@ -8,10 +8,10 @@ use native.Mathlib.Omega.{arith}
 use denote.Ref.{now}
 use lib.ListN.{length, getD, take, drop, length-take, length-drop}
 use Rattle.octets.specs.Strings.{all-zero, same, put}
-use Rattle.store.specs.Block.{most-text, label-in, height-in, digest-in, tail-in, length-in, text-in, rest-in, layout-right, check-right, digest-right, sound, unused, damaged, block-of}
+use Rattle.cabinet.specs.Block.{most-text, label-in, height-in, digest-in, tail-in, length-in, text-in, rest-in, layout-right, check-right, digest-right, sound, unused, damaged, block-of}
 use Rattle.checks.specs.Check.{block-bytes, checked-bytes, check, checked}
-use Rattle.store.proofs.block.is_checked.Statement.{statement}
-use Rattle.store.proofs.block.is_checked.Tie as tie
+use Rattle.cabinet.proofs.block.is_checked.Statement.{statement}
+use Rattle.cabinet.proofs.block.is_checked.Tie as tie
 
 slice-aggregate-check-of : tie.Need-slice-aggregate-check-of
 slice-aggregate-check-of c = simp length-take (omega arith)

@@ -1,10 +1,10 @@
--- `store::block::is_damaged` meets its contract. Assumes nothing.
+-- `cabinet::block::is_damaged` meets its contract. Assumes nothing.
 use borrow.Author.Needs.{needs}
 use mathlib.Core.Path.{_≡_, refl, sym, ap, ap₂, _∙_}
 use mathlib.Core.Bool.{Bool, not}
-use Rattle.store.specs.Block.{most-text, label-in, height-in, digest-in, tail-in, length-in, text-in, rest-in, layout-right, check-right, digest-right, sound, unused, damaged, block-of}
-use Rattle.store.proofs.block.is_damaged.Statement.{statement}
-use Rattle.store.proofs.block.is_damaged.Tie as tie
+use Rattle.cabinet.specs.Block.{most-text, label-in, height-in, digest-in, tail-in, length-in, text-in, rest-in, layout-right, check-right, digest-right, sound, unused, damaged, block-of}
+use Rattle.cabinet.proofs.block.is_damaged.Statement.{statement}
+use Rattle.cabinet.proofs.block.is_damaged.Tie as tie
 
 is-zero-requires : tie.Need-is-zero-requires
 is-zero-requires c κs = search needs

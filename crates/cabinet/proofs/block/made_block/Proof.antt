@@ -1,4 +1,4 @@
--- `store::block::made_block` meets its contract: the parts are put one behind the other into zeros, and the check behind them. Assumes nothing.
+-- `cabinet::block::made_block` meets its contract: the parts are put one behind the other into zeros, and the check behind them. Assumes nothing.
 use borrow.Author.Needs.{needs}
 use mathlib.Core.Path.{_≡_, refl, sym, ap, ap₂, _∙_}
 use mathlib.Core.List.{List, [], _∷_}
@@ -8,11 +8,11 @@ use denote.Ref.{now}
 use lib.ListN.{length, getD, take, drop, length-take, length-drop}
 use Rattle.octets.specs.Strings.{all-zero, same, put}
 use Rattle.octets.specs.Numbers.{bytes-of}
-use Rattle.store.specs.Block.{most-text, label-in, height-in, digest-in, tail-in, length-in, text-in, rest-in, layout-right, check-right, digest-right, sound, unused, damaged, block-of}
+use Rattle.cabinet.specs.Block.{most-text, label-in, height-in, digest-in, tail-in, length-in, text-in, rest-in, layout-right, check-right, digest-right, sound, unused, damaged, block-of}
 use Rattle.checks.specs.Check.{block-bytes, checked-bytes, check, checked}
-use Rattle.store.proofs.Blocks.{block-built}
-use Rattle.store.proofs.block.made_block.Statement.{statement}
-use Rattle.store.proofs.block.made_block.Tie as tie
+use Rattle.cabinet.proofs.Blocks.{block-built}
+use Rattle.cabinet.proofs.block.made_block.Statement.{statement}
+use Rattle.cabinet.proofs.block.made_block.Tie as tie
 
 cast-t14 : tie.Need-cast-t14
 cast-t14 c = search needs

@@ -22,7 +22,7 @@ ghost use mathlib.Core.Path.{_≡_};
 ghost use Prim.Native.Nat.{_≤_};
 ghost use lib.ListN.{length};
 ghost use Rattle.checks.specs.Check.{block-bytes};
-ghost use Rattle.store.specs.Block.{most-text, length-in, layout-right, check-right, digest-right, sound, damaged, block-of};
+ghost use Rattle.cabinet.specs.Block.{most-text, length-in, layout-right, check-right, digest-right, sound, damaged, block-of};
 
 // The text length that a block says.
 fn text_length(b: &[u8]) -> usize

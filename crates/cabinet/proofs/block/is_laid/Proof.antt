@@ -1,4 +1,4 @@
--- `store::block::is_laid` meets its contract. Assumes nothing.
+-- `cabinet::block::is_laid` meets its contract. Assumes nothing.
 use mathlib.Core.Bool.{false}
 use borrow.Author.Needs.{needs}
 use mathlib.Core.Path.{_≡_, refl, sym, ap, ap₂, _∙_}
@@ -10,10 +10,10 @@ use borrow.Author.Tests.{eq-eqb, ne-eqb, le-leb, lt-leb, lt-ltb, le-ltb, not-tru
 use lib.ListN.{length, getD, take, drop, length-take, length-drop}
 use lib.Dec.{eqb, leb, ltb}
 use Rattle.octets.specs.Strings.{all-zero, same, put}
-use Rattle.store.specs.Block.{most-text, label-in, height-in, digest-in, tail-in, length-in, text-in, rest-in, layout-right, check-right, digest-right, sound, unused, damaged, block-of}
+use Rattle.cabinet.specs.Block.{most-text, label-in, height-in, digest-in, tail-in, length-in, text-in, rest-in, layout-right, check-right, digest-right, sound, unused, damaged, block-of}
 use Rattle.rows.specs.Sizes.{top-height}
-use Rattle.store.proofs.block.is_laid.Statement.{statement}
-use Rattle.store.proofs.block.is_laid.Tie as tie
+use Rattle.cabinet.proofs.block.is_laid.Statement.{statement}
+use Rattle.cabinet.proofs.block.is_laid.Tie as tie
 
 slice-aggregate-is-zero : tie.Need-slice-aggregate-is-zero
 slice-aggregate-is-zero c = simp length-take (omega arith)
@@ -50,10 +50,12 @@ returns-4 : tie.Need-returns-4
 unfolding layout-right label-in height-in
 returns-4 c =
     let b = now (c .before .before .before .before .before .before .before .before .before .args .b) in
-    let z : all-zero (take 16 b) ≡ false = sym (c .before .before .before .before .before .before .is-zero .ensures) ∙ c .before .before .before .before .before .if1 .left in
+    let z : all-zero (take 16 b) ≡ false = sym (c .before .before .before .before .before .before .is-zero .ensures)
+    ∙ c .before .before .before .before .before .if1 .left in
     let h = c .before .before .before .before .number-at .ensures in
     let n = c .before .text-length .ensures in
-    rw (z, ap (leb 1) (sym h) ∙ le-leb 1 _ (c .before .before .before .if2 .left), ap (λ (k : ℕ). leb k top-height) (sym h) ∙ le-leb _ top-height (c .before .before .if3 .left), ap (λ (k : ℕ). leb k most-text) (sym n) ∙ lt-leb _ most-text (c .if4 .taken))
+    rw (z, ap (leb 1) (sym h) ∙ le-leb 1 _ (c .before .before .before .if2 .left), ap (λ (k : ℕ). leb k top-height) (sym h)
+    ∙ le-leb _ top-height (c .before .before .if3 .left), ap (λ (k : ℕ). leb k most-text) (sym n) ∙ lt-leb _ most-text (c .if4 .taken))
 
 add-from : tie.Need-add-from
 add-from c = search needs
@@ -74,11 +76,14 @@ returns-5 : tie.Need-returns-5
 unfolding layout-right label-in height-in rest-in
 returns-5 c =
     let b = now (c .before .before .before .before .before .before .before .before .before .before .before .args .b) in
-    let z : all-zero (take 16 b) ≡ false = sym (c .before .before .before .before .before .before .before .before .is-zero .ensures) ∙ c .before .before .before .before .before .before .before .if1 .left in
+    let z : all-zero (take 16 b) ≡ false = sym (c .before .before .before .before .before .before .before .before .is-zero .ensures)
+    ∙ c .before .before .before .before .before .before .before .if1 .left in
     let h = c .before .before .before .before .before .before .number-at .ensures in
     let n = c .before .before .before .text-length .ensures in
     let k : 508 - (90 + c .before .before .before .text-length .result) ≡ most-text - length-in b = omega arith in
-    rw (z, ap (leb 1) (sym h) ∙ le-leb 1 _ (c .before .before .before .before .before .if2 .left), ap (λ (k : ℕ). leb k top-height) (sym h) ∙ le-leb _ top-height (c .before .before .before .before .if3 .left), ap (λ (k : ℕ). leb k most-text) (sym n) ∙ le-leb _ most-text (c .before .before .if4 .left))
+    rw (z, ap (leb 1) (sym h) ∙ le-leb 1 _ (c .before .before .before .before .before .if2 .left), ap (λ (k : ℕ). leb k top-height) (sym h)
+    ∙ le-leb _ top-height (c .before .before .before .before .if3 .left), ap (λ (k : ℕ). leb k most-text) (sym n)
+    ∙ le-leb _ most-text (c .before .before .if4 .left))
     (c .is-zero2 .ensures ∙ ap₂ (λ (i j : ℕ). all-zero (take i (drop (90 + j) b))) k n)
 
 pub is-laid-spec : {M : Type 1} → statement M

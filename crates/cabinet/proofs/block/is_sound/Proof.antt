@@ -1,13 +1,13 @@
--- `store::block::is_sound` meets its contract. Assumes nothing.
+-- `cabinet::block::is_sound` meets its contract. Assumes nothing.
 use borrow.Author.Needs.{needs}
 use mathlib.Core.Path.{_≡_, refl, sym, ap, ap₂, _∙_}
 use denote.Ref.{now}
 use mathlib.Core.Bool.{true}
 use borrow.Author.Tests.{not-true, not-false}
-use Rattle.store.specs.Block.{most-text, label-in, height-in, digest-in, tail-in, length-in, text-in, rest-in, layout-right, check-right, digest-right, sound, unused, damaged, block-of}
-use Rattle.store.proofs.Blocks.{laid-length}
-use Rattle.store.proofs.block.is_sound.Statement.{statement}
-use Rattle.store.proofs.block.is_sound.Tie as tie
+use Rattle.cabinet.specs.Block.{most-text, label-in, height-in, digest-in, tail-in, length-in, text-in, rest-in, layout-right, check-right, digest-right, sound, unused, damaged, block-of}
+use Rattle.cabinet.proofs.Blocks.{laid-length}
+use Rattle.cabinet.proofs.block.is_sound.Statement.{statement}
+use Rattle.cabinet.proofs.block.is_sound.Tie as tie
 
 is-laid-requires : tie.Need-is-laid-requires
 is-laid-requires c κs = search needs
@@ -21,7 +21,9 @@ is-checked-requires c κs = search needs
 
 returns-2 : tie.Need-returns-2
 unfolding sound
-returns-2 c = rw (sym (c .before .before .before .is-laid .ensures) ∙ not-false _ (c .before .before .if1 .left), sym (c .before .is-checked .ensures) ∙ not-true _ (c .if2 .taken))
+returns-2 c =
+    rw (sym (c .before .before .before .is-laid .ensures) ∙ not-false _ (c .before .before .if1 .left), sym (c .before .is-checked .ensures)
+    ∙ not-true _ (c .if2 .taken))
 
 is-digested-requires : tie.Need-is-digested-requires
 is-digested-requires c κs = (search needs, laid-length _ (sym (c .before .before .before .is-laid .ensures) ∙ not-false _ (c .before .before .if1 .left)))
@@ -29,7 +31,8 @@ is-digested-requires c κs = (search needs, laid-length _ (sym (c .before .befor
 returns-3 : tie.Need-returns-3
 unfolding sound
 returns-3 c =
-    rw (sym (c .before .before .before .before .is-laid .ensures) ∙ not-false _ (c .before .before .before .if1 .left), sym (c .before .before .is-checked .ensures) ∙ not-false _ (c .before .if2 .left))
+    rw (sym (c .before .before .before .before .is-laid .ensures) ∙ not-false _ (c .before .before .before .if1 .left),
+    sym (c .before .before .is-checked .ensures) ∙ not-false _ (c .before .if2 .left))
     (c .is-digested .ensures)
 
 pub is-sound-spec : {M : Type 1} → statement M

@@ -1,10 +1,10 @@
--- `store::block::text_length` meets its contract. Assumes nothing.
+-- `cabinet::block::text_length` meets its contract. Assumes nothing.
 use borrow.Author.Needs.{needs}
 use native.Mathlib.Omega.{arith}
 use denote.Ref.{now}
-use Rattle.store.proofs.Blocks.{length-read}
-use Rattle.store.proofs.block.text_length.Statement.{statement}
-use Rattle.store.proofs.block.text_length.Tie as tie
+use Rattle.cabinet.proofs.Blocks.{length-read}
+use Rattle.cabinet.proofs.block.text_length.Statement.{statement}
+use Rattle.cabinet.proofs.block.text_length.Tie as tie
 
 shared-slice-read-result : tie.Need-shared-slice-read-result
 shared-slice-read-result c = search needs

@@ -21,7 +21,7 @@ use Rattle.hash.specs.Sha256.{sha256}
 use Rattle.rows.specs.Sizes.{top-height}
 use Rattle.checks.specs.Check.{block-bytes, checked-bytes, check, checked}
 use Rattle.checks.proofs.Checks.{checked-length, checked-front, checked-back, check-put}
-use Rattle.store.specs.Block.{most-text, text-place, label-in, height-in, digest-in, tail-in, length-in, text-in, rest-in, layout-right, check-right, digest-right, sound, block-of}
+use Rattle.cabinet.specs.Block.{most-text, text-place, label-in, height-in, digest-in, tail-in, length-in, text-in, rest-in, layout-right, check-right, digest-right, sound, block-of}
 
 module _ (label : List ℕ) (height : ℕ) (digest tail text : List ℕ) where
   body : List ℕ
@@ -122,7 +122,8 @@ module _ (label : List ℕ) (height : ℕ) (digest tail text : List ℕ) where
       layout-made : all-zero label ≡ false → 1 ≤ height → height ≤ top-height → layout-right (block-of label height digest tail text) ≡ true
       unfolding layout-right
       layout-made z low high =
-          rw (label-made, z, height-made (omega arith), le-leb 1 height low, le-leb height top-height high, length-made, le-leb (length text) most-text m, zeros-made)
+          rw (label-made, z, height-made (omega arith), le-leb 1 height low, le-leb height top-height high, length-made,
+          le-leb (length text) most-text m, zeros-made)
           (zeros-are (418 - length text))
 
       pub sound-made :
@@ -186,7 +187,8 @@ front-zeros n m s h k =
     let u : n ≡ length s + (n - length s) = omega arith in
     let v : m ≡ length s + (m - length s) = omega arith in
     let rest : drop {A = ℕ} (0 + length s) (replicate n 0) ≡ replicate (n - length s) 0 =
-    ap (λ (j : ℕ). drop {A = ℕ} j (replicate n 0)) (zero-add (length s)) ∙ ap (λ (j : ℕ). drop {A = ℕ} (length s) (replicate j 0)) u ∙ drop-replicate (length s) (n - length s) 0 in
+    ap (λ (j : ℕ). drop {A = ℕ} j (replicate n 0)) (zero-add (length s)) ∙ ap (λ (j : ℕ). drop {A = ℕ} (length s) (replicate j 0)) u
+    ∙ drop-replicate (length s) (n - length s) 0 in
     ap (λ (r : List ℕ). take m (s ++ r)) rest ∙ ap (λ (j : ℕ). take j (s ++ replicate (n - length s) 0)) v
     ∙ take-append-add s (replicate (n - length s) 0) (m - length s)
     ∙ ap (λ (r : List ℕ). s ++ r) (take-replicate (m - length s) (n - length s) 0 (omega arith))
