@@ -122,8 +122,16 @@ module _ (label : List ℕ) (height : ℕ) (digest tail text : List ℕ) where
       layout-made : all-zero label ≡ false → 1 ≤ height → height ≤ top-height → layout-right (block-of label height digest tail text) ≡ true
       unfolding layout-right
       layout-made z low high =
-          rw (label-made, z, height-made (omega arith), le-leb 1 height low, le-leb height top-height high, length-made,
-          le-leb (length text) most-text m, zeros-made)
+          rw (
+            label-made,
+            z,
+            height-made (omega arith),
+            le-leb 1 height low,
+            le-leb height top-height high,
+            length-made,
+            le-leb (length text) most-text m,
+            zeros-made,
+          )
           (zeros-are (418 - length text))
 
       pub sound-made :

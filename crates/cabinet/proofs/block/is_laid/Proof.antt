@@ -54,8 +54,13 @@ returns-4 c =
     ∙ c .before .before .before .before .before .if1 .left in
     let h = c .before .before .before .before .number-at .ensures in
     let n = c .before .text-length .ensures in
-    rw (z, ap (leb 1) (sym h) ∙ le-leb 1 _ (c .before .before .before .if2 .left), ap (λ (k : ℕ). leb k top-height) (sym h)
-    ∙ le-leb _ top-height (c .before .before .if3 .left), ap (λ (k : ℕ). leb k most-text) (sym n) ∙ lt-leb _ most-text (c .if4 .taken))
+    rw (
+      z,
+      ap (leb 1) (sym h) ∙ le-leb 1 _ (c .before .before .before .if2 .left),
+      ap (λ (k : ℕ). leb k top-height) (sym h)
+          ∙ le-leb _ top-height (c .before .before .if3 .left),
+      ap (λ (k : ℕ). leb k most-text) (sym n) ∙ lt-leb _ most-text (c .if4 .taken),
+    )
 
 add-from : tie.Need-add-from
 add-from c = search needs
@@ -81,9 +86,14 @@ returns-5 c =
     let h = c .before .before .before .before .before .before .number-at .ensures in
     let n = c .before .before .before .text-length .ensures in
     let k : 508 - (90 + c .before .before .before .text-length .result) ≡ most-text - length-in b = omega arith in
-    rw (z, ap (leb 1) (sym h) ∙ le-leb 1 _ (c .before .before .before .before .before .if2 .left), ap (λ (k : ℕ). leb k top-height) (sym h)
-    ∙ le-leb _ top-height (c .before .before .before .before .if3 .left), ap (λ (k : ℕ). leb k most-text) (sym n)
-    ∙ le-leb _ most-text (c .before .before .if4 .left))
+    rw (
+      z,
+      ap (leb 1) (sym h) ∙ le-leb 1 _ (c .before .before .before .before .before .if2 .left),
+      ap (λ (k : ℕ). leb k top-height) (sym h)
+          ∙ le-leb _ top-height (c .before .before .before .before .if3 .left),
+      ap (λ (k : ℕ). leb k most-text) (sym n)
+          ∙ le-leb _ most-text (c .before .before .if4 .left),
+    )
     (c .is-zero2 .ensures ∙ ap₂ (λ (i j : ℕ). all-zero (take i (drop (90 + j) b))) k n)
 
 pub is-laid-spec : {M : Type 1} → statement M

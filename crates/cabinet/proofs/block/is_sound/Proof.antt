@@ -22,8 +22,11 @@ is-checked-requires c κs = search needs
 returns-2 : tie.Need-returns-2
 unfolding sound
 returns-2 c =
-    rw (sym (c .before .before .before .is-laid .ensures) ∙ not-false _ (c .before .before .if1 .left), sym (c .before .is-checked .ensures)
-    ∙ not-true _ (c .if2 .taken))
+    rw (
+      sym (c .before .before .before .is-laid .ensures) ∙ not-false _ (c .before .before .if1 .left),
+      sym (c .before .is-checked .ensures)
+          ∙ not-true _ (c .if2 .taken),
+    )
 
 is-digested-requires : tie.Need-is-digested-requires
 is-digested-requires c κs = (search needs, laid-length _ (sym (c .before .before .before .is-laid .ensures) ∙ not-false _ (c .before .before .if1 .left)))
@@ -31,8 +34,10 @@ is-digested-requires c κs = (search needs, laid-length _ (sym (c .before .befor
 returns-3 : tie.Need-returns-3
 unfolding sound
 returns-3 c =
-    rw (sym (c .before .before .before .before .is-laid .ensures) ∙ not-false _ (c .before .before .before .if1 .left),
-    sym (c .before .before .is-checked .ensures) ∙ not-false _ (c .before .if2 .left))
+    rw (
+      sym (c .before .before .before .before .is-laid .ensures) ∙ not-false _ (c .before .before .before .if1 .left),
+      sym (c .before .before .is-checked .ensures) ∙ not-false _ (c .before .if2 .left),
+    )
     (c .is-digested .ensures)
 
 pub is-sound-spec : {M : Type 1} → statement M

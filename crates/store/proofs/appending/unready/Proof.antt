@@ -32,9 +32,13 @@ returns-3 : tie.Need-returns-3
 unfolding first ready-tests holds-damaged blocks
 returns-3 c =
     let a = c .before .before .before .before .before .before .before .before .args in
-    rw (le-ltb _ _ (c .before .before .before .before .if1 .left), sym (c .before .before .before .is-area .ensures)
-    ∙ not-false _ (c .before .before .if2 .left), ap (λ (m : ℕ). ltb m (blocks (now (a .area)))) (sym (c .before .first-damaged .ensures))
-    ∙ lt-ltb _ _ (c .if3 .taken))
+    rw (
+      le-ltb _ _ (c .before .before .before .before .if1 .left),
+      sym (c .before .before .before .is-area .ensures)
+          ∙ not-false _ (c .before .before .if2 .left),
+      ap (λ (m : ℕ). ltb m (blocks (now (a .area)))) (sym (c .before .first-damaged .ensures))
+          ∙ lt-ltb _ _ (c .if3 .taken),
+    )
 
 is-zero-requires : tie.Need-is-zero-requires
 is-zero-requires c κs = search needs
@@ -43,19 +47,27 @@ returns-4 : tie.Need-returns-4
 unfolding first ready-tests holds-damaged blocks
 returns-4 c =
     let a = c .before .before .before .before .before .before .before .before .before .before .args in
-    rw (le-ltb _ _ (c .before .before .before .before .before .before .if1 .left), sym (c .before .before .before .before .before .is-area .ensures)
-    ∙ not-false _ (c .before .before .before .before .if2 .left),
-    ap (λ (m : ℕ). ltb m (blocks (now (a .area)))) (sym (c .before .before .before .first-damaged .ensures))
-    ∙ le-ltb _ _ (c .before .before .if3 .left), sym (c .before .is-zero .ensures) ∙ c .if4 .taken)
+    rw (
+      le-ltb _ _ (c .before .before .before .before .before .before .if1 .left),
+      sym (c .before .before .before .before .before .is-area .ensures)
+          ∙ not-false _ (c .before .before .before .before .if2 .left),
+      ap (λ (m : ℕ). ltb m (blocks (now (a .area)))) (sym (c .before .before .before .first-damaged .ensures))
+          ∙ le-ltb _ _ (c .before .before .if3 .left),
+      sym (c .before .is-zero .ensures) ∙ c .if4 .taken,
+    )
 
 returns-5 : tie.Need-returns-5
 unfolding first ready-tests holds-damaged blocks
 returns-5 c =
     let a = c .before .before .before .before .before .before .before .before .before .before .args in
-    rw (le-ltb _ _ (c .before .before .before .before .before .before .if1 .left), sym (c .before .before .before .before .before .is-area .ensures)
-    ∙ not-false _ (c .before .before .before .before .if2 .left),
-    ap (λ (m : ℕ). ltb m (blocks (now (a .area)))) (sym (c .before .before .before .first-damaged .ensures))
-    ∙ le-ltb _ _ (c .before .before .if3 .left), sym (c .before .is-zero .ensures) ∙ c .if4 .left)
+    rw (
+      le-ltb _ _ (c .before .before .before .before .before .before .if1 .left),
+      sym (c .before .before .before .before .before .is-area .ensures)
+          ∙ not-false _ (c .before .before .before .before .if2 .left),
+      ap (λ (m : ℕ). ltb m (blocks (now (a .area)))) (sym (c .before .before .before .first-damaged .ensures))
+          ∙ le-ltb _ _ (c .before .before .if3 .left),
+      sym (c .before .is-zero .ensures) ∙ c .if4 .left,
+    )
 
 pub unready-spec : {M : Type 1} → statement M
 unready-spec =

@@ -31,9 +31,11 @@ loop-less c = omega arith
 loop-again : tie.Need-loop-again Inv-loop μ-loop
 loop-again c =
     let a = c .before .before .before .before .before .args in
-    let l = c .before .before .loop in
-    (omega arith, c .newer-at .ensures ∙ ap (λ (f : Newest). newer (now (a .label)) f (block-at (now (a .area)) (l .i))) (l .inv .1)
-    ∙ sym (newest-next (now (a .area)) (now (a .label)) (l .i)))
+    let l = c .before .before .loop in (
+      omega arith,
+      c .newer-at .ensures ∙ ap (λ (f : Newest). newer (now (a .label)) f (block-at (now (a .area)) (l .i))) (l .inv .1)
+          ∙ sym (newest-next (now (a .area)) (now (a .label)) (l .i)),
+    )
 
 returns : tie.Need-returns Inv-loop μ-loop
 returns c =

@@ -33,8 +33,11 @@ returns-2 : tie.Need-returns-2
 unfolding answers height-in label-in
 returns-2 c =
     let a = c .before .before .before .before .before .before .before .args in
-    rw (ap (λ (k : ℕ). eqb k (a .height)) (sym (c .before .before .before .before .number-at .ensures))
-    ∙ eq-eqb _ (a .height) (c .before .before .before .if1 .left), sym (c .before .is-same .ensures) ∙ not-true _ (c .if2 .taken))
+    rw (
+      ap (λ (k : ℕ). eqb k (a .height)) (sym (c .before .before .before .before .number-at .ensures))
+          ∙ eq-eqb _ (a .height) (c .before .before .before .if1 .left),
+      sym (c .before .is-same .ensures) ∙ not-true _ (c .if2 .taken),
+    )
 
 is-sound-requires : tie.Need-is-sound-requires
 is-sound-requires c κs = search needs
@@ -43,8 +46,11 @@ returns-3 : tie.Need-returns-3
 unfolding answers height-in label-in
 returns-3 c =
     let a = c .before .before .before .before .before .before .before .before .args in
-    rw (ap (λ (k : ℕ). eqb k (a .height)) (sym (c .before .before .before .before .before .number-at .ensures))
-    ∙ eq-eqb _ (a .height) (c .before .before .before .before .if1 .left), sym (c .before .before .is-same .ensures) ∙ not-false _ (c .before .if2 .left))
+    rw (
+      ap (λ (k : ℕ). eqb k (a .height)) (sym (c .before .before .before .before .before .number-at .ensures))
+          ∙ eq-eqb _ (a .height) (c .before .before .before .before .if1 .left),
+      sym (c .before .before .is-same .ensures) ∙ not-false _ (c .before .if2 .left),
+    )
     (c .is-sound .ensures)
 
 pub is-asked-spec : {M : Type 1} → statement M
