@@ -45,7 +45,7 @@ extern "C" {
  * are not to be mixed.
  */
 #define MAHQURITH_VERSION_MAJOR 1
-#define MAHQURITH_VERSION_MINOR 2
+#define MAHQURITH_VERSION_MINOR 3
 
 /*
  * Answers: 0, or the refusal's number; mahqurith_meaning says what each means. Tests are made in the order that each call
