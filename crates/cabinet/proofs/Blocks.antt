@@ -1,8 +1,8 @@
 -- A made block: what stands in each of its parts, and that it is sound. Assumes nothing.
 use mathlib.Core.Path.{_≡_, refl, sym, ap, ap₂, _∙_}
-use mathlib.Core.Bool.{Bool, true, false, not, _&&_}
+use mathlib.Core.Bool.{true, false, not, _&&_}
 use mathlib.Core.List.{List, [], _∷_, _++_, append-assoc}
-use Prim.Native.Nat.{ℕ, zero, suc, _+_, _-_, _*_, _/_, _%_, _≤_, _<_}
+use Prim.Native.Nat.{ℕ, _+_, _-_, _*_, _/_, _%_, _≤_, _<_}
 use native.Mathlib.Nat.{zero-add}
 use native.Mathlib.Omega.{arith}
 use borrow.Author.Tests.{le-leb, leb-true, not-true}
@@ -21,7 +21,7 @@ use Rattle.hash.specs.Sha256.{sha256}
 use Rattle.rows.specs.Sizes.{top-height}
 use Rattle.checks.specs.Check.{block-bytes, checked-bytes, check, checked}
 use Rattle.checks.proofs.Checks.{checked-length, checked-front, checked-back, check-put}
-use Rattle.cabinet.specs.Block.{most-text, text-place, label-in, height-in, digest-in, tail-in, length-in, text-in, rest-in, layout-right, check-right, digest-right, sound, block-of}
+use Rattle.cabinet.specs.Block.{most-text, label-in, height-in, digest-in, tail-in, length-in, text-in, rest-in, layout-right, check-right, digest-right, sound, block-of}
 
 module _ (label : List ℕ) (height : ℕ) (digest tail text : List ℕ) where
   body : List ℕ

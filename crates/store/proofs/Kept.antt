@@ -1,11 +1,11 @@
 -- What is appended reads back: after an accepted append and any further calls of the store, the read of that label and height gives that block. Assumes nothing.
-use mathlib.Core.Path.{_≡_, refl, sym, ap, ap₂, _∙_}
-use mathlib.Core.Bool.{Bool, true, false, not, cond, _&&_}
+use mathlib.Core.Path.{_≡_, refl, sym, ap, _∙_}
+use mathlib.Core.Bool.{Bool, true, false, not, _&&_}
 use mathlib.Core.List.{List, [], _∷_, _++_}
 use Prim.Native.Nat.{ℕ, zero, suc, _+_, _-_, _*_, _≤_, _<_}
 use native.Mathlib.Decide.{decLt}
 use native.Mathlib.Omega.{arith}
-use borrow.Author.Tests.{eqb-true, eqb-false, eq-eqb, ne-eqb, ltb-false, le-ltb, not-true, not-false}
+use borrow.Author.Tests.{eqb-true, eqb-false, eq-eqb, ne-eqb, ltb-false, not-false}
 use lib.ListN.{length, take, drop, replicate, length-take, length-drop}
 use lib.Dec.{eqb, ltb}
 use Rattle.refusals.specs.{accepted}
@@ -21,10 +21,10 @@ use Rattle.hash.proofs.Promised.{sha256-length}
 use Rattle.rows.specs.Sizes.{label-bytes, top-height}
 use Rattle.rows.specs.Digests.{appended}
 use Rattle.checks.specs.Check.{block-bytes}
-use Rattle.cabinet.specs.Block.{most-text, label-in, height-in, digest-in, tail-in, text-in, sound, unused, damaged, block-of}
+use Rattle.cabinet.specs.Block.{most-text, label-in, height-in, digest-in, tail-in, text-in, sound, unused, damaged}
 use Rattle.store.specs.Area.{blocks, area-right, block-at, first-place, first-unused, first-damaged, holds-damaged, newest}
-use Rattle.store.specs.Append.{Appended, ready-tests, order-tests, room-tests, append-tests, block-appended, appending}
-use Rattle.store.specs.Read.{Copied, answers, first-answer, read-tests, reading}
+use Rattle.store.specs.Append.{ready-tests, order-tests, room-tests, append-tests, block-appended, appending}
+use Rattle.store.specs.Read.{answers, first-answer, read-tests, reading}
 use Rattle.store.specs.Kept.{Call, append, read, after, later}
 use Rattle.store.proofs.Places.{first-within, first-holds, first-none, first-only, newest-greatest, newest-below}
 use Rattle.cabinet.proofs.Blocks.{label-made, height-made, digest-made, tail-made, text-made, block-length, sound-made, sound-label, sound-height}

@@ -1,6 +1,6 @@
 -- Which case of the append and of the read each test decides. Assumes nothing.
 use mathlib.Core.Path.{_≡_, refl, sym, ap, _∙_}
-use mathlib.Core.Bool.{Bool, true, false, not}
+use mathlib.Core.Bool.{Bool, true, false}
 use mathlib.Core.List.{List, [], _∷_, _++_}
 use Prim.Native.Nat.{ℕ, _*_, _≤_, _<_}
 use borrow.Author.Tests.{eq-eqb, ne-eqb, lt-ltb, le-ltb, ltb-false}
@@ -14,8 +14,8 @@ use Rattle.octets.specs.Strings.{put}
 use Rattle.checks.specs.Check.{block-bytes}
 use Rattle.cabinet.specs.Block.{most-text}
 use Rattle.store.specs.Area.{blocks, area-right, block-at, first-unused, holds-damaged, newest}
-use Rattle.store.specs.Append.{Appended, ready-tests, order-tests, room-tests, append-tests, block-appended, shown, appending}
-use Rattle.store.specs.Read.{Copied, first-answer, read-tests, reading}
+use Rattle.store.specs.Append.{ready-tests, order-tests, room-tests, append-tests, block-appended, shown, appending}
+use Rattle.store.specs.Read.{first-answer, read-tests, reading}
 
 -- none of the first four tests answers with 11
 not-eleven : (a b c d : Bool) → eqb (first ((a ⇒ 33) ∷ (b ⇒ 2) ∷ (c ⇒ 2) ∷ (d ⇒ 14) ∷ [])) out-of-order ≡ false

@@ -1,12 +1,8 @@
 -- `checks::check_of` meets its contract: the front of the digest. Assumes nothing.
 use mathlib.Core.Path.{_≡_, ap, _∙_}
-use mathlib.Core.List.{List}
-use Prim.Native.Nat.{ℕ}
-use native.Mathlib.Omega.{arith}
 use borrow.Author.Needs.{needs}
 use lib.ListN.{length, take, length-take}
 use Rattle.octets.proofs.Puts.{put-all}
-use Rattle.hash.proofs.Promised.{sha256-length}
 use Rattle.checks.specs.Check.{check-bytes}
 use Rattle.checks.proofs.check_of.Statement.{statement}
 use Rattle.checks.proofs.check_of.Tie as tie

@@ -1,15 +1,13 @@
 -- `cabinet::block::is_checked` meets its contract. Assumes nothing.
 use lib.Seq.{take-all}
 use borrow.Author.Needs.{needs}
-use mathlib.Core.Path.{_≡_, refl, sym, ap, ap₂, _∙_}
-use mathlib.Core.List.{List}
-use Prim.Native.Nat.{ℕ, _+_, _-_, _*_, _≤_}
+use mathlib.Core.Path.{ap₂, _∙_}
+use Prim.Native.Nat.{_-_}
 use native.Mathlib.Omega.{arith}
 use denote.Ref.{now}
-use lib.ListN.{length, getD, take, drop, length-take, length-drop}
-use Rattle.octets.specs.Strings.{all-zero, same, put}
-use Rattle.cabinet.specs.Block.{most-text, label-in, height-in, digest-in, tail-in, length-in, text-in, rest-in, layout-right, check-right, digest-right, sound, unused, damaged, block-of}
-use Rattle.checks.specs.Check.{block-bytes, checked-bytes, check, checked}
+use lib.ListN.{length, drop, length-take, length-drop}
+use Rattle.octets.specs.Strings.{same}
+use Rattle.cabinet.specs.Block.{check-right}
 use Rattle.cabinet.proofs.block.is_checked.Statement.{statement}
 use Rattle.cabinet.proofs.block.is_checked.Tie as tie
 

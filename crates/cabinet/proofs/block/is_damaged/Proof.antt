@@ -1,8 +1,8 @@
 -- `cabinet::block::is_damaged` meets its contract. Assumes nothing.
 use borrow.Author.Needs.{needs}
-use mathlib.Core.Path.{_≡_, refl, sym, ap, ap₂, _∙_}
-use mathlib.Core.Bool.{Bool, not}
-use Rattle.cabinet.specs.Block.{most-text, label-in, height-in, digest-in, tail-in, length-in, text-in, rest-in, layout-right, check-right, digest-right, sound, unused, damaged, block-of}
+use mathlib.Core.Path.{sym, ap, _∙_}
+use mathlib.Core.Bool.{not}
+use Rattle.cabinet.specs.Block.{unused, damaged}
 use Rattle.cabinet.proofs.block.is_damaged.Statement.{statement}
 use Rattle.cabinet.proofs.block.is_damaged.Tie as tie
 

@@ -1,13 +1,13 @@
 -- `cabinet::block::is_digested` meets its contract. Assumes nothing.
 use borrow.Author.Needs.{needs}
-use mathlib.Core.Path.{_≡_, refl, sym, ap, ap₂, _∙_}
+use mathlib.Core.Path.{_≡_, ap, _∙_}
 use mathlib.Core.List.{List}
-use Prim.Native.Nat.{ℕ, _+_, _-_, _*_, _≤_}
+use Prim.Native.Nat.{ℕ, _+_, _-_}
 use native.Mathlib.Omega.{arith}
 use denote.Ref.{now}
-use lib.ListN.{length, getD, take, drop, length-take, length-drop}
-use Rattle.octets.specs.Strings.{all-zero, same, put}
-use Rattle.cabinet.specs.Block.{most-text, label-in, height-in, digest-in, tail-in, length-in, text-in, rest-in, layout-right, check-right, digest-right, sound, unused, damaged, block-of}
+use lib.ListN.{take, drop}
+use Rattle.octets.specs.Strings.{same}
+use Rattle.cabinet.specs.Block.{digest-in, length-in, text-in, digest-right}
 use Rattle.hash.specs.Sha256.{sha256}
 use Rattle.cabinet.proofs.block.is_digested.Statement.{statement}
 use Rattle.cabinet.proofs.block.is_digested.Tie as tie

@@ -1,16 +1,15 @@
 -- `cabinet::block::is_laid` meets its contract. Assumes nothing.
 use mathlib.Core.Bool.{false}
 use borrow.Author.Needs.{needs}
-use mathlib.Core.Path.{_≡_, refl, sym, ap, ap₂, _∙_}
-use mathlib.Core.List.{List}
-use Prim.Native.Nat.{ℕ, _+_, _-_, _*_, _≤_}
+use mathlib.Core.Path.{_≡_, sym, ap, ap₂, _∙_}
+use Prim.Native.Nat.{ℕ, _+_, _-_}
 use native.Mathlib.Omega.{arith}
 use denote.Ref.{now}
-use borrow.Author.Tests.{eq-eqb, ne-eqb, le-leb, lt-leb, lt-ltb, le-ltb, not-true, not-false}
-use lib.ListN.{length, getD, take, drop, length-take, length-drop}
-use lib.Dec.{eqb, leb, ltb}
-use Rattle.octets.specs.Strings.{all-zero, same, put}
-use Rattle.cabinet.specs.Block.{most-text, label-in, height-in, digest-in, tail-in, length-in, text-in, rest-in, layout-right, check-right, digest-right, sound, unused, damaged, block-of}
+use borrow.Author.Tests.{le-leb, lt-leb}
+use lib.ListN.{take, drop, length-take}
+use lib.Dec.{leb}
+use Rattle.octets.specs.Strings.{all-zero}
+use Rattle.cabinet.specs.Block.{most-text, label-in, height-in, length-in, rest-in, layout-right}
 use Rattle.rows.specs.Sizes.{top-height}
 use Rattle.cabinet.proofs.block.is_laid.Statement.{statement}
 use Rattle.cabinet.proofs.block.is_laid.Tie as tie

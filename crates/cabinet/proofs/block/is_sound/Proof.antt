@@ -1,10 +1,8 @@
 -- `cabinet::block::is_sound` meets its contract. Assumes nothing.
 use borrow.Author.Needs.{needs}
-use mathlib.Core.Path.{_≡_, refl, sym, ap, ap₂, _∙_}
-use denote.Ref.{now}
-use mathlib.Core.Bool.{true}
+use mathlib.Core.Path.{sym, _∙_}
 use borrow.Author.Tests.{not-true, not-false}
-use Rattle.cabinet.specs.Block.{most-text, label-in, height-in, digest-in, tail-in, length-in, text-in, rest-in, layout-right, check-right, digest-right, sound, unused, damaged, block-of}
+use Rattle.cabinet.specs.Block.{sound}
 use Rattle.cabinet.proofs.Blocks.{laid-length}
 use Rattle.cabinet.proofs.block.is_sound.Statement.{statement}
 use Rattle.cabinet.proofs.block.is_sound.Tie as tie

@@ -1,15 +1,14 @@
 -- `cabinet::block::made_block` meets its contract: the parts are put one behind the other into zeros, and the check behind them. Assumes nothing.
 use borrow.Author.Needs.{needs}
-use mathlib.Core.Path.{_≡_, refl, sym, ap, ap₂, _∙_}
+use mathlib.Core.Path.{_≡_, refl, ap, _∙_}
 use mathlib.Core.List.{List, [], _∷_}
 use Prim.Native.Nat.{ℕ, _/_, _%_}
 use native.Mathlib.Omega.{arith}
 use denote.Ref.{now}
-use lib.ListN.{length, getD, take, drop, length-take, length-drop}
-use Rattle.octets.specs.Strings.{all-zero, same, put}
+use lib.ListN.{length, length-take}
+use Rattle.octets.specs.Strings.{put}
 use Rattle.octets.specs.Numbers.{bytes-of}
-use Rattle.cabinet.specs.Block.{most-text, label-in, height-in, digest-in, tail-in, length-in, text-in, rest-in, layout-right, check-right, digest-right, sound, unused, damaged, block-of}
-use Rattle.checks.specs.Check.{block-bytes, checked-bytes, check, checked}
+use Rattle.checks.specs.Check.{block-bytes, checked-bytes, check}
 use Rattle.cabinet.proofs.Blocks.{block-built}
 use Rattle.cabinet.proofs.block.made_block.Statement.{statement}
 use Rattle.cabinet.proofs.block.made_block.Tie as tie
@@ -88,20 +87,25 @@ copy-at-requires-6 c κs = search needs
 
 returns : tie.Need-returns
 returns c =
-    let a = c .before .before .before .before .before .before .before .before .before .before .before .before .before .before .before .before .before .before .before .before .before .before .before .before .before .before .before .before .before .args in
-    let g = c .before .before .before .before .before .before .before .before .before .before .before .before .before .before .before .before .before .before .before .before .before .before .before .before .before .before .before .before .before .good in
+    let c5 = c .before .before .before .before .before in
+    let c10 = c5 .before .before .before .before .before in
+    let c15 = c10 .before .before .before .before .before in
+    let c20 = c15 .before .before .before .before .before in
+    let c25 = c20 .before .before .before .before .before in
+    let a = c25 .before .before .before .before .args in
+    let g = c25 .before .before .before .before .good in
     let l : length (a .t1) ≡ 16 = omega (arith, g .0) in
     let d : length (a .t3) ≡ 32 = omega (arith, g .1 .1 .0) in
     let t : length (a .t4) ≡ 32 = omega (arith, g .1 .1 .1 .0) in
     let n = length (now (a .text)) in
-    let five = c .before .before .before .before .before .before .before .copy-at5 .ensures
-    ∙ ap (λ (x : List ℕ). put x 90 (now (a .text))) (c .before .before .before .before .before .before .before .before .before .before .copy-at4 .ensures
-    ∙ ap (λ (x : List ℕ). put x 88 (n / 256 ∷ n % 256 ∷ [])) (c .before .before .before .before .before .before .before .before .before .before .before .before .before .before .copy-at3 .ensures
-    ∙ ap (λ (x : List ℕ). put x 56 (a .t4)) (c .before .before .before .before .before .before .before .before .before .before .before .before .before .before .before .before .before .before .copy-at2 .ensures
-    ∙ ap (λ (x : List ℕ). put x 24 (a .t3)) (c .before .before .before .before .before .before .before .before .before .before .before .before .before .before .before .before .before .before .before .before .before .before .put-number .ensures
-    ∙ ap (λ (x : List ℕ). put x 16 (bytes-of 8 (a .height))) (c .before .before .before .before .before .before .before .before .before .before .before .before .before .before .before .before .before .before .before .before .before .before .before .before .before .copy-at .ensures))))) in
+    let five = c5 .before .before .copy-at5 .ensures
+    ∙ ap (λ (x : List ℕ). put x 90 (now (a .text))) (c10 .copy-at4 .ensures
+    ∙ ap (λ (x : List ℕ). put x 88 (n / 256 ∷ n % 256 ∷ [])) (c10 .before .before .before .before .copy-at3 .ensures
+    ∙ ap (λ (x : List ℕ). put x 56 (a .t4)) (c15 .before .before .before .copy-at2 .ensures
+    ∙ ap (λ (x : List ℕ). put x 24 (a .t3)) (c20 .before .before .put-number .ensures
+    ∙ ap (λ (x : List ℕ). put x 16 (bytes-of 8 (a .height))) (c25 .copy-at .ensures))))) in
     c .before .copy-at6 .ensures ∙ ap (put _ checked-bytes) (c .before .before .before .before .check-of .ensures)
-    ∙ block-built block-bytes (a .t1) (a .height) (a .t3) (a .t4) (now (a .text)) _ refl l d t (c .before .before .before .before .before .before .before .before .before .before .before .before .before .before .before .before .before .before .before .before .before .before .before .before .before .before .before .before .before .pre) five
+    ∙ block-built block-bytes (a .t1) (a .height) (a .t3) (a .t4) (now (a .text)) _ refl l d t (c25 .before .before .before .before .pre) five
 
 pub made-block-spec : {M : Type 1} → statement M
 made-block-spec =

@@ -1,16 +1,13 @@
 -- `store::appending::unready` meets its contract. Assumes nothing.
 use borrow.Author.Needs.{needs}
-use mathlib.Core.Path.{_≡_, refl, sym, ap, ap₂, _∙_}
-use Prim.Native.Nat.{ℕ, _+_, _-_, _*_, _≤_}
-use native.Mathlib.Omega.{arith}
+use mathlib.Core.Path.{sym, ap, _∙_}
+use Prim.Native.Nat.{ℕ, _-_}
 use denote.Ref.{now}
-use borrow.Author.Tests.{eq-eqb, ne-eqb, le-leb, lt-leb, lt-ltb, le-ltb, not-true, not-false}
-use lib.ListN.{length}
-use lib.Dec.{eqb, leb, ltb}
-use Rattle.cabinet.specs.Block.{most-text, label-in, height-in, digest-in, tail-in, length-in, text-in, rest-in, layout-right, check-right, digest-right, sound, unused, damaged, block-of}
-use Rattle.store.specs.Area.{blocks, area-right, block-at, first-place, first-unused, first-damaged, holds-damaged, newer, newest}
+use borrow.Author.Tests.{lt-ltb, le-ltb, not-true, not-false}
+use lib.Dec.{ltb}
+use Rattle.store.specs.Area.{blocks, holds-damaged}
 use Rattle.refusals.specs.Order.{first}
-use Rattle.store.specs.Append.{ready-tests, order-tests, shown, appending}
+use Rattle.store.specs.Append.{ready-tests, appending}
 use Rattle.store.proofs.appending.unready.Statement.{statement}
 use Rattle.store.proofs.appending.unready.Tie as tie
 

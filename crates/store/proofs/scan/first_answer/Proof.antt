@@ -1,12 +1,9 @@
 -- `store::scan::first_answer` meets its contract. The loop's invariant: the test held of no block passed. Assumes nothing.
-use mathlib.Core.Path.{_≡_, refl, sym, ap, ap₂, _∙_}
-use mathlib.Core.Bool.{Bool}
-use Prim.Native.Nat.{ℕ, _+_, _-_, _*_, _≤_}
+use mathlib.Core.Path.{_≡_, refl, sym, _∙_}
+use Prim.Native.Nat.{ℕ, _-_, _≤_}
 use native.Mathlib.Omega.{arith}
 use denote.Ref.{now}
-use lib.ListN.{length, getD, take, drop, length-take, length-drop}
-use Rattle.cabinet.specs.Block.{most-text, label-in, height-in, digest-in, tail-in, length-in, text-in, rest-in, layout-right, check-right, digest-right, sound, unused, damaged, block-of}
-use Rattle.store.specs.Area.{blocks, area-right, block-at, first-place, first-unused, first-damaged, holds-damaged, newer, newest}
+use Rattle.store.specs.Area.{block-at, first-place}
 use Rattle.store.specs.Read.{answers, first-answer}
 use Rattle.store.proofs.Places.{first-next, first-found}
 use Rattle.store.proofs.scan.first_answer.Statement.{statement}
@@ -28,7 +25,8 @@ answers-at-requires c κs = omega arith
 returns : tie.Need-returns Inv-loop μ-loop
 unfolding first-answer
 returns c =
-    let a = c .before .before .before .before .before .before .args in
+    let c5 = c .before .before .before .before .before in
+    let a = c5 .before .args in
     let l = c .before .before .before .loop in
     sym (first-found (λ (i : ℕ). answers (now (a .label)) (a .height) (block-at (now (a .area)) i)) (a .n) (l .i) (omega arith) (l .inv .1) (sym (c .before .answers-at .ensures) ∙ c .if1 .taken))
 
@@ -40,7 +38,8 @@ loop-less c = omega arith
 
 loop-again : tie.Need-loop-again Inv-loop μ-loop
 loop-again c =
-    let a = c .before .before .before .before .before .before .args in
+    let c5 = c .before .before .before .before .before in
+    let a = c5 .before .args in
     let l = c .before .before .before .loop in
     (omega arith, first-next (λ (i : ℕ). answers (now (a .label)) (a .height) (block-at (now (a .area)) i)) (l .i) (l .inv .1) (sym (c .before .answers-at .ensures) ∙ c .if1 .left))
 

@@ -1,13 +1,10 @@
 -- `store::scan::first_damaged` meets its contract. The loop's invariant: the test held of no block passed. Assumes nothing.
-use mathlib.Core.Path.{_≡_, refl, sym, ap, ap₂, _∙_}
-use mathlib.Core.Bool.{Bool}
-use Prim.Native.Nat.{ℕ, _+_, _-_, _*_, _≤_}
+use mathlib.Core.Path.{_≡_, refl, sym, _∙_}
+use Prim.Native.Nat.{ℕ, _-_, _≤_}
 use native.Mathlib.Omega.{arith}
 use denote.Ref.{now}
-use lib.ListN.{length, getD, take, drop, length-take, length-drop}
-use Rattle.cabinet.specs.Block.{most-text, label-in, height-in, digest-in, tail-in, length-in, text-in, rest-in, layout-right, check-right, digest-right, sound, unused, damaged, block-of}
-use Rattle.store.specs.Area.{blocks, area-right, block-at, first-place, first-unused, first-damaged, holds-damaged, newer, newest}
-use Rattle.store.specs.Read.{answers, first-answer}
+use Rattle.cabinet.specs.Block.{damaged}
+use Rattle.store.specs.Area.{block-at, first-place, first-damaged}
 use Rattle.store.proofs.Places.{first-next, first-found}
 use Rattle.store.proofs.scan.first_damaged.Statement.{statement}
 use Rattle.store.proofs.scan.first_damaged.Tie as tie

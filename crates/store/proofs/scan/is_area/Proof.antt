@@ -1,6 +1,6 @@
 -- `store::scan::is_area` meets its contract. Assumes nothing.
 use borrow.Author.Tests.{eq-eqb, ne-eqb}
-use Rattle.store.specs.Area.{blocks, area-right, block-at, first-place, first-unused, first-damaged, holds-damaged, newer, newest}
+use Rattle.store.specs.Area.{blocks, area-right}
 use Rattle.store.proofs.scan.is_area.Statement.{statement}
 use Rattle.store.proofs.scan.is_area.Tie as tie
 

@@ -1,9 +1,9 @@
 -- `store::scan::newest` meets its contract. The loop's invariant: what is found is the newest of the blocks passed. Assumes nothing.
-use mathlib.Core.Path.{_≡_, refl, sym, ap, ap₂, _∙_}
-use Prim.Native.Nat.{ℕ, _+_, _-_, _*_, _≤_}
+use mathlib.Core.Path.{_≡_, refl, sym, ap, _∙_}
+use Prim.Native.Nat.{_-_, _≤_}
 use native.Mathlib.Omega.{arith}
 use denote.Ref.{now}
-use Rattle.store.specs.Area.{blocks, area-right, block-at, first-place, first-unused, first-damaged, holds-damaged, newer, newest}
+use Rattle.store.specs.Area.{blocks, block-at, newer, newest}
 use Rattle.store.specs.declared.Newest.{Newest}
 use Rattle.store.proofs.Places.{newest-next}
 use Rattle.store.proofs.scan.newest.Statement.{statement}

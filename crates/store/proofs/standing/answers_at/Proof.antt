@@ -1,13 +1,12 @@
 -- `store::standing::answers_at` meets its contract. Assumes nothing.
 use borrow.Author.Needs.{needs}
-use mathlib.Core.Path.{_≡_, refl, sym, ap, ap₂, _∙_}
-use mathlib.Core.List.{List}
-use Prim.Native.Nat.{ℕ, _+_, _-_, _*_, _≤_}
+use mathlib.Core.Path.{_≡_, ap, _∙_}
+use Prim.Native.Nat.{ℕ, _+_, _-_, _*_}
 use native.Mathlib.Omega.{arith}
 use denote.Ref.{now}
-use lib.ListN.{length, getD, take, drop, length-take, length-drop}
-use Rattle.store.specs.Area.{blocks, area-right, block-at, first-place, first-unused, first-damaged, holds-damaged, newer, newest}
-use Rattle.checks.specs.Check.{block-bytes, checked-bytes, check, checked}
+use lib.ListN.{take, drop}
+use Rattle.store.specs.Area.{block-at}
+use Rattle.checks.specs.Check.{block-bytes}
 use Rattle.store.specs.Read.{answers}
 use Rattle.store.proofs.standing.answers_at.Statement.{statement}
 use Rattle.store.proofs.standing.answers_at.Tie as tie

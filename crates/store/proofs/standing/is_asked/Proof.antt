@@ -1,15 +1,12 @@
 -- `store::standing::is_asked` meets its contract. Assumes nothing.
 use borrow.Author.Needs.{needs}
-use mathlib.Core.Path.{_≡_, refl, sym, ap, ap₂, _∙_}
-use mathlib.Core.List.{List}
-use Prim.Native.Nat.{ℕ, _+_, _-_, _*_, _≤_}
+use mathlib.Core.Path.{sym, ap, _∙_}
+use Prim.Native.Nat.{ℕ, _-_}
 use native.Mathlib.Omega.{arith}
-use denote.Ref.{now}
-use borrow.Author.Tests.{eq-eqb, ne-eqb, le-leb, lt-leb, lt-ltb, le-ltb, not-true, not-false}
-use lib.ListN.{length, getD, take, drop, length-take, length-drop}
-use lib.Dec.{eqb, leb, ltb}
-use Rattle.octets.specs.Strings.{all-zero, same, put}
-use Rattle.cabinet.specs.Block.{most-text, label-in, height-in, digest-in, tail-in, length-in, text-in, rest-in, layout-right, check-right, digest-right, sound, unused, damaged, block-of}
+use borrow.Author.Tests.{eq-eqb, ne-eqb, not-true, not-false}
+use lib.ListN.{length-take}
+use lib.Dec.{eqb}
+use Rattle.cabinet.specs.Block.{label-in, height-in}
 use Rattle.store.specs.Read.{answers}
 use Rattle.store.proofs.standing.is_asked.Statement.{statement}
 use Rattle.store.proofs.standing.is_asked.Tie as tie

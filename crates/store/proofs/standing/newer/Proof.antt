@@ -1,16 +1,14 @@
 -- `store::standing::newer` meets its contract. Assumes nothing.
 use borrow.Author.Needs.{needs}
-use mathlib.Core.Path.{_≡_, refl, sym, ap, ap₂, _∙_}
+use mathlib.Core.Path.{_≡_, sym, ap₂, _∙_}
 use mathlib.Core.List.{List}
-use Prim.Native.Nat.{ℕ, _+_, _-_, _*_, _≤_}
+use Prim.Native.Nat.{ℕ, _-_}
 use native.Mathlib.Omega.{arith}
 use denote.Ref.{now}
-use borrow.Author.Tests.{eq-eqb, ne-eqb, le-leb, lt-leb, lt-ltb, le-ltb, not-true, not-false}
-use lib.ListN.{length, getD, take, drop, length-take, length-drop}
-use lib.Dec.{eqb, leb, ltb}
-use Rattle.octets.specs.Strings.{all-zero, same, put}
-use Rattle.cabinet.specs.Block.{most-text, label-in, height-in, digest-in, tail-in, length-in, text-in, rest-in, layout-right, check-right, digest-right, sound, unused, damaged, block-of}
-use Rattle.store.specs.Area.{blocks, area-right, block-at, first-place, first-unused, first-damaged, holds-damaged, newer, newest}
+use borrow.Author.Tests.{not-true, not-false}
+use lib.ListN.{length, take, drop, length-take, length-drop}
+use Rattle.cabinet.specs.Block.{label-in, height-in, tail-in}
+use Rattle.store.specs.Area.{newer}
 use Rattle.octets.proofs.Puts.{put-all}
 use Rattle.store.proofs.Places.{newer-stays, newer-other, newer-moves}
 use Rattle.store.proofs.standing.newer.Statement.{statement}
@@ -55,12 +53,14 @@ copy-at-requires c κs = search needs
 returns-3 : tie.Need-returns-3
 unfolding height-in label-in tail-in
 returns-3 c =
-    let a = c .before .before .before .before .before .before .before .before .before .before .before .before .args in
+    let c5 = c .before .before .before .before .before in
+    let c10 = c5 .before .before .before .before .before in
+    let a = c10 .before .before .args in
     let b = now (a .b) in
-    let h : c .before .before .before .before .before .before .before .before .before .number-at .result ≡ height-in b = c .before .before .before .before .before .before .before .before .before .number-at .ensures in
+    let h : c5 .before .before .before .before .number-at .result ≡ height-in b = c5 .before .before .before .before .number-at .ensures in
     let t : length (take 32 (drop 56 b)) ≡ 32 = simp (length-take, length-drop) (omega arith) in
     ap₂ (λ (k : ℕ) (l : List ℕ). record { height = k; tail = l }) h (c .before .copy-at .ensures ∙ put-all _ (take 32 (drop 56 b)) t)
-    ∙ sym (newer-moves (now (a .label)) (a .found) b (omega arith) (sym (c .before .before .before .before .before .is-same .ensures)
+    ∙ sym (newer-moves (now (a .label)) (a .found) b (omega arith) (sym (c5 .is-same .ensures)
     ∙ not-false _ (c .before .before .before .before .if2 .left)))
 
 pub newer-spec : {M : Type 1} → statement M

@@ -1,15 +1,14 @@
 -- `store::standing::unused_at` meets its contract. Assumes nothing.
 use borrow.Author.Needs.{needs}
-use mathlib.Core.Path.{_≡_, refl, sym, ap, ap₂, _∙_}
-use mathlib.Core.List.{List}
-use Prim.Native.Nat.{ℕ, _+_, _-_, _*_, _≤_}
+use mathlib.Core.Path.{_≡_, ap, _∙_}
+use Prim.Native.Nat.{ℕ, _+_, _-_, _*_}
 use native.Mathlib.Omega.{arith}
 use denote.Ref.{now}
-use lib.ListN.{length, getD, take, drop, length-take, length-drop}
-use Rattle.octets.specs.Strings.{all-zero, same, put}
-use Rattle.cabinet.specs.Block.{most-text, label-in, height-in, digest-in, tail-in, length-in, text-in, rest-in, layout-right, check-right, digest-right, sound, unused, damaged, block-of}
-use Rattle.store.specs.Area.{blocks, area-right, block-at, first-place, first-unused, first-damaged, holds-damaged, newer, newest}
-use Rattle.checks.specs.Check.{block-bytes, checked-bytes, check, checked}
+use lib.ListN.{take, drop}
+use Rattle.octets.specs.Strings.{all-zero}
+use Rattle.cabinet.specs.Block.{unused}
+use Rattle.store.specs.Area.{block-at}
+use Rattle.checks.specs.Check.{block-bytes}
 use Rattle.store.proofs.standing.unused_at.Statement.{statement}
 use Rattle.store.proofs.standing.unused_at.Tie as tie
 
