@@ -60,11 +60,16 @@ returns-2 : tie.Need-returns-2
 unfolding blocks
 returns-2 c =
     let a = c .before .before .before .before .before .before .before .before .before .before .before .before .before .args in
-    let h : c .before .before .before .newest .result ≡ newest (now (a .area)) (a .asked .label) (blocks (now (a .area))) = c .before .before .before .newest .ensures in
+    let h : c .before .before .before .newest .result ≡ newest (now (a .area)) (a .asked .label) (blocks (now (a .area))) =
+    c .before .before .before .newest .ensures in
     let f = c .before .before .unordered .ensures ∙ ap (λ (m : Newest). first (order-tests (a .asked .height) (m .height))) h in
     ap (λ (r : Answer). record { number = r .number; written = r .written; height = r .height; area = now (a .area) }) (c .refusal2 .ensures)
-    ∙ ap (λ (m : Newest). record { number = c .before .before .unordered .result; written = 0; height = shown (c .before .before .unordered .result) (m .height); area = now (a .area) }) h
-    ∙ append-unordered (now (a .area)) (a .asked .label) (a .asked .height) (now (a .text)) _ (c .before .before .before .before .before .before .before .unready .ensures) (c .before .before .before .before .before .before .if1 .left) _ f (c .before .if2 .taken)
+    ∙ ap
+    (λ (m : Newest). record { number = c .before .before .unordered .result; written = 0; height = shown (c .before .before .unordered .result) (m .height); area = now (a .area) })
+    h
+    ∙ append-unordered (now (a .area)) (a .asked .label) (a .asked .height) (now (a .text)) _
+    (c .before .before .before .before .before .before .before .unready .ensures) (c .before .before .before .before .before .before .if1 .left)
+    _ f (c .before .if2 .taken)
 
 first-unused-requires : tie.Need-first-unused-requires
 first-unused-requires c κs = search needs
@@ -79,30 +84,44 @@ returns-3 : tie.Need-returns-3
 unfolding blocks
 returns-3 c =
     let a = c .before .before .before .before .before .before .before .before .before .before .before .before .before .before .before .before .args in
-    let h : c .before .before .before .before .before .before .newest .result ≡ newest (now (a .area)) (a .asked .label) (blocks (now (a .area))) = c .before .before .before .before .before .before .newest .ensures in
+    let h : c .before .before .before .before .before .before .newest .result ≡ newest (now (a .area)) (a .asked .label) (blocks (now (a .area))) =
+    c .before .before .before .before .before .before .newest .ensures in
     let f = c .before .before .before .before .before .unordered .ensures ∙ ap (λ (m : Newest). first (order-tests (a .asked .height) (m .height))) h in
     let u : c .before .before .first-unused .result ≡ first-unused (now (a .area)) (blocks (now (a .area))) = c .before .before .first-unused .ensures in
     ap (λ (r : Answer). record { number = r .number; written = r .written; height = r .height; area = now (a .area) }) (c .refusal3 .ensures)
-    ∙ append-full (now (a .area)) (a .asked .label) (a .asked .height) (now (a .text)) _ (c .before .before .before .before .before .before .before .before .before .before .unready .ensures) (c .before .before .before .before .before .before .before .before .before .if1 .left) _ f (c .before .before .before .before .if2 .left) (sym u ∙ c .before .if3 .taken)
+    ∙ append-full (now (a .area)) (a .asked .label) (a .asked .height) (now (a .text)) _
+    (c .before .before .before .before .before .before .before .before .before .before .unready .ensures)
+    (c .before .before .before .before .before .before .before .before .before .if1 .left) _ f (c .before .before .before .before .if2 .left)
+    (sym u ∙ c .before .if3 .taken)
 
 digest-of-requires : tie.Need-digest-of-requires
 digest-of-requires c κs =
     let a = c .before .before .before .before .before .before .before .before .before .before .before .before .before .before .before .before .args in
-    omega (arith, ready-text (now (a .area)) (a .asked .label) (a .asked .height) (now (a .text)) _ (c .before .before .before .before .before .before .before .before .before .before .unready .ensures) (c .before .before .before .before .before .before .before .before .before .if1 .left))
+    omega (
+      arith,
+      ready-text (now (a .area)) (a .asked .label) (a .asked .height) (now (a .text)) _
+          (c .before .before .before .before .before .before .before .before .before .before .unready .ensures)
+          (c .before .before .before .before .before .before .before .before .before .if1 .left),
+    )
 
 appended-requires : tie.Need-appended-requires
 appended-requires c κs = search needs
 
 made-block-requires : tie.Need-made-block-requires
 made-block-requires c κs =
-    let a = c .before .before .before .before .before .before .before .before .before .before .before .before .before .before .before .before .before .before .args in
-    ready-text (now (a .area)) (a .asked .label) (a .asked .height) (now (a .text)) _ (c .before .before .before .before .before .before .before .before .before .before .before .before .unready .ensures) (c .before .before .before .before .before .before .before .before .before .before .before .if1 .left)
+    let a =
+    c .before .before .before .before .before .before .before .before .before .before .before .before .before .before .before .before .before .before .args in
+    ready-text (now (a .area)) (a .asked .label) (a .asked .height) (now (a .text)) _
+    (c .before .before .before .before .before .before .before .before .before .before .before .before .unready .ensures)
+    (c .before .before .before .before .before .before .before .before .before .before .before .if1 .left)
 
 mul-copy-at : tie.Need-mul-copy-at
 unfolding blocks first-unused
 mul-copy-at c =
-    let a = c .before .before .before .before .before .before .before .before .before .before .before .before .before .before .before .before .before .before .before .before .args in
-    let u : c .before .before .before .before .before .before .first-unused .result ≡ first-unused (now (a .area)) (blocks (now (a .area))) = c .before .before .before .before .before .before .first-unused .ensures in
+    let a =
+    c .before .before .before .before .before .before .before .before .before .before .before .before .before .before .before .before .before .before .before .before .args in
+    let u : c .before .before .before .before .before .before .first-unused .result ≡ first-unused (now (a .area)) (blocks (now (a .area))) =
+    c .before .before .before .before .before .before .first-unused .ensures in
     let w = first-within (λ (i : ℕ). unused (block-at (now (a .area)) i)) (blocks (now (a .area))) in
     let whole = whole-blocks (now (a .area)) in
     omega arith
@@ -113,8 +132,10 @@ slice-aggregate-copy-at c = search needs
 copy-at-requires : tie.Need-copy-at-requires
 unfolding blocks first-unused
 copy-at-requires c κs =
-    let a = c .before .before .before .before .before .before .before .before .before .before .before .before .before .before .before .before .before .before .before .before .before .args in
-    let u : c .before .before .before .before .before .before .before .first-unused .result ≡ first-unused (now (a .area)) (blocks (now (a .area))) = c .before .before .before .before .before .before .before .first-unused .ensures in
+    let a =
+    c .before .before .before .before .before .before .before .before .before .before .before .before .before .before .before .before .before .before .before .before .before .args in
+    let u : c .before .before .before .before .before .before .before .first-unused .result ≡ first-unused (now (a .area)) (blocks (now (a .area))) =
+    c .before .before .before .before .before .before .before .first-unused .ensures in
     let w = first-within (λ (i : ℕ). unused (block-at (now (a .area)) i)) (blocks (now (a .area))) in
     let whole = whole-blocks (now (a .area)) in
     omega arith
@@ -128,19 +149,28 @@ same-length-4 c = search needs
 returns-4 : tie.Need-returns-4
 unfolding blocks block-appended
 returns-4 c =
-    let a = c .before .before .before .before .before .before .before .before .before .before .before .before .before .before .before .before .before .before .before .before .before .before .before .before .before .args in
-    let h : c .before .before .before .before .before .before .before .before .before .before .before .before .before .before .before .newest .result ≡ newest (now (a .area)) (a .asked .label) (blocks (now (a .area))) = c .before .before .before .before .before .before .before .before .before .before .before .before .before .before .before .newest .ensures in
+    let a =
+    c .before .before .before .before .before .before .before .before .before .before .before .before .before .before .before .before .before .before .before .before .before .before .before .before .before .args in
+    let h : c .before .before .before .before .before .before .before .before .before .before .before .before .before .before .before .newest .result ≡ newest (now (a .area)) (a .asked .label) (blocks (now (a .area))) =
+    c .before .before .before .before .before .before .before .before .before .before .before .before .before .before .before .newest .ensures in
     let f = c .before .before .before .before .before .before .before .before .before .before .before .before .before .before .unordered .ensures
     ∙ ap (λ (m : Newest). first (order-tests (a .asked .height) (m .height))) h in
-    let u : c .before .before .before .before .before .before .before .before .before .before .before .first-unused .result ≡ first-unused (now (a .area)) (blocks (now (a .area))) = c .before .before .before .before .before .before .before .before .before .before .before .first-unused .ensures in
-    let d : c .before .before .before .before .before .before .before .before .digest-of .result ≡ sha256 (now (a .text)) = c .before .before .before .before .before .before .before .before .digest-of .ensures in
+    let u : c .before .before .before .before .before .before .before .before .before .before .before .first-unused .result ≡ first-unused (now (a .area)) (blocks (now (a .area))) =
+    c .before .before .before .before .before .before .before .before .before .before .before .first-unused .ensures in
+    let d : c .before .before .before .before .before .before .before .before .digest-of .result ≡ sha256 (now (a .text)) =
+    c .before .before .before .before .before .before .before .before .digest-of .ensures in
     let b = c .before .before .before .before .before .before .made-block .ensures
     ∙ ap₂ (λ (x t : List ℕ). block-of (a .asked .label) (a .asked .height) x t (now (a .text))) d
     (c .before .before .before .before .before .before .before .appended .ensures ∙ ap₂ (λ (m : Newest) (x : List ℕ). appended (m .tail) x) h d) in
-    ap (λ (r : Answer). record { number = r .number; written = r .written; height = r .height; area = c .before .before .before .copy-at .last .0 }) (c .refusal4 .ensures)
+    ap (λ (r : Answer). record { number = r .number; written = r .written; height = r .height; area = c .before .before .before .copy-at .last .0 })
+    (c .refusal4 .ensures)
     ∙ ap (λ (l : List ℕ). record { number = 0; written = 0; height = shown 0 0; area = l }) (c .before .before .before .copy-at .ensures
     ∙ ap₂ (λ (i : ℕ) (l : List ℕ). put (now (a .area)) (block-bytes * i) l) u b)
-    ∙ append-done (now (a .area)) (a .asked .label) (a .asked .height) (now (a .text)) _ (c .before .before .before .before .before .before .before .before .before .before .before .before .before .before .before .before .before .before .before .unready .ensures) (c .before .before .before .before .before .before .before .before .before .before .before .before .before .before .before .before .before .before .if1 .left) _ f (c .before .before .before .before .before .before .before .before .before .before .before .before .before .if2 .left) (λ g. c .before .before .before .before .before .before .before .before .before .before .if3 .left (u ∙ g))
+    ∙ append-done (now (a .area)) (a .asked .label) (a .asked .height) (now (a .text)) _
+    (c .before .before .before .before .before .before .before .before .before .before .before .before .before .before .before .before .before .before .before .unready .ensures)
+    (c .before .before .before .before .before .before .before .before .before .before .before .before .before .before .before .before .before .before .if1 .left)
+    _ f (c .before .before .before .before .before .before .before .before .before .before .before .before .before .if2 .left)
+    (λ g. c .before .before .before .before .before .before .before .before .before .before .if3 .left (u ∙ g))
 
 pub mahqurith-store-append-spec : {M : Type 1} → statement M
 mahqurith-store-append-spec =

@@ -39,7 +39,8 @@ returns-2 c =
     let c5 = c .before .before .before .before .before in
     let a = c5 .before .args in
     ap (λ (r : Answer). record { number = r .number; written = r .written; height = r .height; output = now (a .output) }) (c .answer2 .ensures)
-    ∙ read-unsound (now (a .area)) (a .asked .label) (a .asked .height) (now (a .output)) (c .before .before .before .if1 .left) (sym (c .before .before .is-area .ensures) ∙ not-true _ (c .before .if2 .taken))
+    ∙ read-unsound (now (a .area)) (a .asked .label) (a .asked .height) (now (a .output)) (c .before .before .before .if1 .left)
+    (sym (c .before .before .is-area .ensures) ∙ not-true _ (c .before .if2 .taken))
 
 slice-aggregate-first-answer : tie.Need-slice-aggregate-first-answer
 slice-aggregate-first-answer c = search needs
@@ -59,9 +60,12 @@ returns-3 c =
     let c5 = c .before .before .before .before .before in
     let c10 = c5 .before .before .before .before .before in
     let a = c10 .before .before .args in
-    let f : c .before .before .before .before .first-answer .result ≡ first-answer (now (a .area)) (a .asked .label) (a .asked .height) (blocks (now (a .area))) = c .before .before .before .before .first-answer .ensures in
+    let f : c .before .before .before .before .first-answer .result ≡ first-answer (now (a .area)) (a .asked .label) (a .asked .height) (blocks (now (a .area))) =
+    c .before .before .before .before .first-answer .ensures in
     ap (λ (r : Answer). record { number = r .number; written = r .written; height = r .height; output = now (a .output) }) (c .answer3 .ensures)
-    ∙ read-damaged (now (a .area)) (a .asked .label) (a .asked .height) (now (a .output)) (c5 .before .before .before .before .if1 .left) (sym (c5 .before .before .before .is-area .ensures) ∙ not-false _ (c5 .before .before .if2 .left)) (sym f ∙ c .before .before .before .if3 .taken) (ap (λ (m : ℕ). ltb m (blocks (now (a .area)))) (sym (c .before .before .first-damaged .ensures)) ∙ lt-ltb _ _ (c .before .if4 .taken))
+    ∙ read-damaged (now (a .area)) (a .asked .label) (a .asked .height) (now (a .output)) (c5 .before .before .before .before .if1 .left)
+    (sym (c5 .before .before .before .is-area .ensures) ∙ not-false _ (c5 .before .before .if2 .left)) (sym f ∙ c .before .before .before .if3 .taken)
+    (ap (λ (m : ℕ). ltb m (blocks (now (a .area)))) (sym (c .before .before .first-damaged .ensures)) ∙ lt-ltb _ _ (c .before .if4 .taken))
 
 answer-requires-4 : tie.Need-answer-requires-4
 answer-requires-4 c κs = search needs
@@ -72,16 +76,20 @@ returns-4 c =
     let c5 = c .before .before .before .before .before in
     let c10 = c5 .before .before .before .before .before in
     let a = c10 .before .before .args in
-    let f : c .before .before .before .before .first-answer .result ≡ first-answer (now (a .area)) (a .asked .label) (a .asked .height) (blocks (now (a .area))) = c .before .before .before .before .first-answer .ensures in
+    let f : c .before .before .before .before .first-answer .result ≡ first-answer (now (a .area)) (a .asked .label) (a .asked .height) (blocks (now (a .area))) =
+    c .before .before .before .before .first-answer .ensures in
     ap (λ (r : Answer). record { number = r .number; written = r .written; height = r .height; output = now (a .output) }) (c .answer4 .ensures)
-    ∙ read-none (now (a .area)) (a .asked .label) (a .asked .height) (now (a .output)) (c5 .before .before .before .before .if1 .left) (sym (c5 .before .before .before .is-area .ensures) ∙ not-false _ (c5 .before .before .if2 .left)) (sym f ∙ c .before .before .before .if3 .taken) (ap (λ (m : ℕ). ltb m (blocks (now (a .area)))) (sym (c .before .before .first-damaged .ensures)) ∙ le-ltb _ _ (c .before .if4 .left))
+    ∙ read-none (now (a .area)) (a .asked .label) (a .asked .height) (now (a .output)) (c5 .before .before .before .before .if1 .left)
+    (sym (c5 .before .before .before .is-area .ensures) ∙ not-false _ (c5 .before .before .if2 .left)) (sym f ∙ c .before .before .before .if3 .taken)
+    (ap (λ (m : ℕ). ltb m (blocks (now (a .area)))) (sym (c .before .before .first-damaged .ensures)) ∙ le-ltb _ _ (c .before .if4 .left))
 
 mul-from : tie.Need-mul-from
 unfolding blocks first-answer
 mul-from c =
     let c5 = c .before .before .before .before .before in
     let a = c5 .before .before .before .before .args in
-    let f : c .before .first-answer .result ≡ first-answer (now (a .area)) (a .asked .label) (a .asked .height) (blocks (now (a .area))) = c .before .first-answer .ensures in
+    let f : c .before .first-answer .result ≡ first-answer (now (a .area)) (a .asked .label) (a .asked .height) (blocks (now (a .area))) =
+    c .before .first-answer .ensures in
     let w = first-within (λ (i : ℕ). answers (a .asked .label) (a .asked .height) (block-at (now (a .area)) i)) (blocks (now (a .area))) in
     let whole : block-bytes * blocks (now (a .area)) ≤ length (now (a .area)) = whole-blocks (now (a .area)) in
     omega arith
@@ -92,7 +100,8 @@ add-copy-at c =
     let c5 = c .before .before .before .before .before in
     let c10 = c5 .before .before .before .before .before in
     let a = c10 .args in
-    let f : c .before .before .first-answer .result ≡ first-answer (now (a .area)) (a .asked .label) (a .asked .height) (blocks (now (a .area))) = c .before .before .first-answer .ensures in
+    let f : c .before .before .first-answer .result ≡ first-answer (now (a .area)) (a .asked .label) (a .asked .height) (blocks (now (a .area))) =
+    c .before .before .first-answer .ensures in
     let w = first-within (λ (i : ℕ). answers (a .asked .label) (a .asked .height) (block-at (now (a .area)) i)) (blocks (now (a .area))) in
     let whole : block-bytes * blocks (now (a .area)) ≤ length (now (a .area)) = whole-blocks (now (a .area)) in
     omega arith
@@ -109,7 +118,8 @@ part-copy-at-end c =
     let c5 = c .before .before .before .before .before in
     let c10 = c5 .before .before .before .before .before in
     let a = c10 .args in
-    let f : c .before .before .first-answer .result ≡ first-answer (now (a .area)) (a .asked .label) (a .asked .height) (blocks (now (a .area))) = c .before .before .first-answer .ensures in
+    let f : c .before .before .first-answer .result ≡ first-answer (now (a .area)) (a .asked .label) (a .asked .height) (blocks (now (a .area))) =
+    c .before .before .first-answer .ensures in
     let w = first-within (λ (i : ℕ). answers (a .asked .label) (a .asked .height) (block-at (now (a .area)) i)) (blocks (now (a .area))) in
     let whole : block-bytes * blocks (now (a .area)) ≤ length (now (a .area)) = whole-blocks (now (a .area)) in
     omega arith
@@ -130,13 +140,16 @@ returns-5 c =
     let c10 = c5 .before .before .before .before .before in
     let c15 = c10 .before .before .before .before .before in
     let a = c15 .args in
-    let f : c5 .before .before .first-answer .result ≡ first-answer (now (a .area)) (a .asked .label) (a .asked .height) (blocks (now (a .area))) = c5 .before .before .first-answer .ensures in
+    let f : c5 .before .before .first-answer .result ≡ first-answer (now (a .area)) (a .asked .label) (a .asked .height) (blocks (now (a .area))) =
+    c5 .before .before .first-answer .ensures in
     let at = c5 .before .before .first-answer .result in
     let e : block-bytes * at + block-bytes - block-bytes * at ≡ block-bytes = omega arith in
-    ap (λ (r : Answer). record { number = r .number; written = r .written; height = r .height; output = c .before .before .before .copy-at .last .0 }) (c .answer5 .ensures)
+    ap (λ (r : Answer). record { number = r .number; written = r .written; height = r .height; output = c .before .before .before .copy-at .last .0 })
+    (c .answer5 .ensures)
     ∙ ap (λ (l : List ℕ). record { number = 0; written = block-bytes; height = 0; output = l }) (c .before .before .before .copy-at .ensures
     ∙ ap₂ (λ (k i : ℕ). put (now (a .output)) 0 (take k (drop (block-bytes * i) (now (a .area))))) e f)
-    ∙ read-done (now (a .area)) (a .asked .label) (a .asked .height) (now (a .output)) (c10 .before .before .if1 .left) (sym (c10 .before .is-area .ensures) ∙ not-false _ (c10 .if2 .left)) (λ g. c5 .before .if3 .left (f ∙ g))
+    ∙ read-done (now (a .area)) (a .asked .label) (a .asked .height) (now (a .output)) (c10 .before .before .if1 .left)
+    (sym (c10 .before .is-area .ensures) ∙ not-false _ (c10 .if2 .left)) (λ g. c5 .before .if3 .left (f ∙ g))
 
 pub mahqurith-store-read-spec : {M : Type 1} → statement M
 mahqurith-store-read-spec =
