@@ -1,4 +1,5 @@
--- What a walk over a string asks in turn: each part keeps the rules, and it ends within the string. Together they are asked of a bundle, since its places only grow.
+-- What a walk over a string asks in turn: each part keeps the rules, and it ends within the string. Together they are asked of a bundle, since its places
+-- only grow.
 use mathlib.Core.Bool.{Bool, _&&_}
 use mathlib.Core.List.{List}
 use Prim.Native.Nat.{ℕ, _+_}
@@ -7,7 +8,8 @@ use lib.Dec.{eqb, leb, ltb}
 use Rattle.marks.specs.{marks-fit}
 use Rattle.marks.specs.Entries.{entries-fit, pair-position, pair-marks}
 use Rattle.rows.specs.Table.{each}
-use Rattle.rules.specs.Bundle.{most-blocks, most-added, byte, old-count, old-position, old-marks, blocks-fit, new-at, new-count, new-entries, two-byte, list-at, added-fits}
+use Rattle.rules.specs.Bundle.{most-blocks, most-added, byte, old-count, old-position, old-marks, blocks-fit}
+use Rattle.rules.specs.Bundle.{new-at, new-count, new-entries, two-byte, list-at, added-fits}
 
 -- an old entry at a place, for a rack of n and the lowest position that comes after the entries before it
 abbrev pub old-asked : List ℕ → ℕ → ℕ → ℕ → Bool

@@ -1,5 +1,5 @@
--- The whole outcome of reading and of writing. 01, "Layouts": "Reading a rack, roll or statement by itself refuses with 6, 15 or 23, exactly when the layout is broken; writing one refuses
--- with that number for contents no reading gives, then with 1 for an area too short."
+-- The whole outcome of reading and of writing. 01, "Layouts": "Reading a rack, roll or statement by itself refuses with 6, 15 or 23, exactly when the layout
+-- is broken; writing one refuses with that number for contents no reading gives, then with 1 for an area too short."
 use mathlib.Core.List.{List}
 use mathlib.Core.Option.{Option, none, some}
 use Prim.Native.Nat.{ℕ}

@@ -1,5 +1,5 @@
--- Contents as C has them, beside those of the layouts. 01, "Layouts": "A rack is taken apart into up to fifteen keys of 32 bytes."; "A parsed statement is one record whose last part depends on
--- its kind.": in C the record is flat, and the fields that its kind has not are zero.
+-- Contents as C has them, beside those of the layouts. 01, "Layouts": "A rack is taken apart into up to fifteen keys of 32 bytes."; "A parsed statement is
+-- one record whose last part depends on its kind.": in C the record is flat, and the fields that its kind has not are zero.
 use mathlib.Core.Bool.{cond, _&&_}
 use mathlib.Core.List.{List, _++_, map}
 use Prim.Native.Nat.{ℕ}
@@ -72,7 +72,17 @@ plain-of v =
 -- every field zero
 abbrev pub no-plain : Plain
 no-plain =
-    record { kind = 0; identity = no-digest; own = no-digest; other = no-digest; roll = no-digest; label = no-label; tail = no-digest; nonce = no-nonce; height = 0 }
+    record {
+      kind = 0;
+      identity = no-digest;
+      own = no-digest;
+      other = no-digest;
+      roll = no-digest;
+      label = no-label;
+      tail = no-digest;
+      nonce = no-nonce;
+      height = 0;
+    }
 
 -- "1 new, 2 append", "3 read", "4 finalise", "5 initialise"; no other number is a kind's
 unfoldable pub kind-named : ℕ → ℕ → List ℕ → Kind
@@ -92,4 +102,12 @@ kind-of number height nonce =
 
 unfoldable pub statement-of : Plain → Statement
 statement-of p =
-    record { kind = kind-of (p .kind) (p .height) (p .nonce); identity = p .identity; own = p .own; label = p .label; tail = p .tail; other = p .other; roll = p .roll }
+    record {
+      kind = kind-of (p .kind) (p .height) (p .nonce);
+      identity = p .identity;
+      own = p .own;
+      label = p .label;
+      tail = p .tail;
+      other = p .other;
+      roll = p .roll;
+    }

@@ -1,5 +1,5 @@
--- Lists of entries, each of a position in a rack and marks. 01, "Handover bundle": "Positions strictly rise within each list and lie below the rack's size."; "Verdict": "Signers are pairs of
--- position and marks, one byte each, .. positions strictly rising and below n, otherwise 22."; and "for each .. 17, 18".
+-- Lists of entries, each of a position in a rack and marks. 01, "Handover bundle": "Positions strictly rise within each list and lie below the rack's size.";
+-- "Verdict": "Signers are pairs of position and marks, one byte each, .. positions strictly rising and below n, otherwise 22."; and "for each .. 17, 18".
 use mathlib.Core.Bool.{Bool, true, not, _&&_}
 use mathlib.Core.List.{List, [], _∷_, _++_}
 use Prim.Native.Nat.{ℕ, zero, suc, _+_, _*_}

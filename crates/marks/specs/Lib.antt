@@ -1,5 +1,5 @@
--- The marks byte. 01, "Parts of the product": "The chip's findings arrive as a marks byte: bit 0 set means that the key is attested, bit 1 that its signature on the
--- statement named below is valid; other bits must be zero, otherwise 22."
+-- The marks byte. 01, "Parts of the product": "The chip's findings arrive as a marks byte: bit 0 set means that the key is attested, bit 1 that its signature
+-- on the statement named below is valid; other bits must be zero, otherwise 22."
 use Prim.Native.Nat.{ℕ, _/_, _%_}
 use mathlib.Core.Bool.{Bool}
 use lib.Dec.{eqb}

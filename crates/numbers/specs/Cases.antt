@@ -1,4 +1,5 @@
--- 01, "Numbers to try": the cases "Marked P: proved for the rules themselves, gathered in a single list under one claim", in the order of 01, and those that 02 adds.
+-- 01, "Numbers to try": the cases "Marked P: proved for the rules themselves, gathered in a single list under one claim", in the order of 01, and those that
+-- 02 adds.
 use mathlib.Core.Path.{_≡_}
 use mathlib.Core.Bool.{true, false}
 use mathlib.Core.List.{List, [], _∷_}

@@ -1,5 +1,5 @@
--- The whole outcome of reading a rack; that of writing one is `writing` of the layouts. 01, "Layouts": "Reading a rack, roll or statement by itself refuses with
--- 6, 15 or 23, exactly when the layout is broken".
+-- The whole outcome of reading a rack; that of writing one is `writing` of the layouts. 01, "Layouts": "Reading a rack, roll or statement by itself refuses
+-- with 6, 15 or 23, exactly when the layout is broken".
 use Prim.Native.Nat.{ℕ}
 use mathlib.Core.Option.{Option, none, some}
 use mathlib.Core.List.{List}

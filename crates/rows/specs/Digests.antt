@@ -1,5 +1,5 @@
--- The digest of a roll and the tail after an entry. 01, "Roll": "Roll digest = SHA-256 of 0x02, the count as one byte, the rows."; "Append": "new tail = SHA-256
--- of 0x01, old tail, the entry's 32-byte digest."
+-- The digest of a roll and the tail after an entry. 01, "Roll": "Roll digest = SHA-256 of 0x02, the count as one byte, the rows."; "Append": "new tail =
+-- SHA-256 of 0x01, old tail, the entry's 32-byte digest."
 use mathlib.Core.List.{List, _∷_, _++_}
 use Prim.Native.Nat.{ℕ, _*_}
 use lib.ListN.{take}

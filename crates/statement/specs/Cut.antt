@@ -8,7 +8,8 @@ use lib.Dec.{eqb}
 use Rattle.statement.specs.declared.Kind.{Kind}
 use Rattle.statement.specs.declared.Kind.the-variants.{Blank, New, Append, Read, Finalise, Initialise}
 use Rattle.statement.specs.declared.Statement.{Statement}
-use Rattle.statement.specs.Kinds.{kind-number, size, digest-bytes, label-bytes, identity-place, first-place, second-place, third-place, label-place, tail-place, height-place, nonce-place, nonce-half, digest-at, label-at, number-at}
+use Rattle.statement.specs.Kinds.{kind-number, size, digest-bytes, label-bytes, identity-place, first-place, second-place, third-place}
+use Rattle.statement.specs.Kinds.{label-place, tail-place, height-place, nonce-place, nonce-half, digest-at, label-at, number-at}
 
 -- a string has the length and the first byte of a kind
 abbrev pub starts : Kind → List ℕ → Bool
@@ -45,12 +46,28 @@ blank-statement =
 -- "own rack digest, label, tail" behind the identity; no other digest
 unfoldable pub receipt-at : Kind → List ℕ → Statement
 receipt-at k s =
-    record { kind = k; identity = digest-at identity-place s; own = digest-at first-place s; label = label-at label-place s; tail = digest-at tail-place s; other = no-digest; roll = no-digest }
+    record {
+      kind = k;
+      identity = digest-at identity-place s;
+      own = digest-at first-place s;
+      label = label-at label-place s;
+      tail = digest-at tail-place s;
+      other = no-digest;
+      roll = no-digest;
+    }
 
 -- three digests behind the identity, the own one and the other in either order; no label, no tail
 unfoldable pub handover-at : Kind → ℕ → ℕ → List ℕ → Statement
 handover-at k own-at other-at s =
-    record { kind = k; identity = digest-at identity-place s; own = digest-at own-at s; label = no-label; tail = no-digest; other = digest-at other-at s; roll = digest-at third-place s }
+    record {
+      kind = k;
+      identity = digest-at identity-place s;
+      own = digest-at own-at s;
+      label = no-label;
+      tail = no-digest;
+      other = digest-at other-at s;
+      roll = digest-at third-place s;
+    }
 
 -- a string taken apart as one of a kind
 unfoldable pub cut-as : Kind → List ℕ → Statement
