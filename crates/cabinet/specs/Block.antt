@@ -1,5 +1,5 @@
--- A block of the store. 02, M-104: "blocks of 512 bytes: label, height in 8 bytes, entry digest, tail, text length in 2 bytes, up to 418 bytes of text, zeros, the
--- 4-byte check."
+-- A block of the store. 02, M-104: "blocks of 512 bytes: label, height in 8 bytes, entry digest, tail, text length in 2 bytes, up to 418 bytes of text,
+-- zeros, the 4-byte check."
 use mathlib.Core.Bool.{Bool, not, _&&_}
 use mathlib.Core.List.{List, _++_}
 use Prim.Native.Nat.{ℕ, _+_, _-_}

@@ -1,5 +1,5 @@
--- The check of a block. 01, "Roll": "It travels in 512-byte blocks: .. then the first 4 bytes of SHA-256 over the first 508."; 02, M-104: "blocks of 512 bytes: .. the
--- 4-byte check".
+-- The check of a block. 01, "Roll": "It travels in 512-byte blocks: .. then the first 4 bytes of SHA-256 over the first 508."; 02, M-104: "blocks of 512
+-- bytes: .. the 4-byte check".
 use mathlib.Core.List.{List, _++_}
 use Prim.Native.Nat.{ℕ, _-_}
 use lib.ListN.{take}

@@ -1,5 +1,5 @@
--- The append. 02, M-104: "It appends a text at an expected height, one above the label's first block of greatest height (height 1 for a label it hasn't got), into
--- the first unused block."; "the tail follows 01".
+-- The append. 02, M-104: "It appends a text at an expected height, one above the label's first block of greatest height (height 1 for a label it hasn't got),
+-- into the first unused block."; "the tail follows 01".
 use mathlib.Core.Bool.{Bool, not, cond}
 use mathlib.Core.List.{List, [], _∷_, _++_}
 use Prim.Native.Nat.{ℕ, _+_, _*_}
