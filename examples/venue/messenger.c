@@ -74,12 +74,11 @@ bool messenger_look(const store *s, const uint8_t label[MAHQURITH_LABEL], uint64
     return mahqurith_store_read(s->area, sizeof s->area, place_of(label, height), block, MAHQURITH_BLOCK).number == MAHQURITH_ACCEPTED;
 }
 
-/* The entry digests of the store's cues that are missing in a roll. */
-static void add_missing(message *bundle, const message *roll, const store *s) {
-    mahqurith_row row = mahqurith_read_roll(BYTES(*roll)).roll.rows[0];
+/* The entry digests of the store's cues that are missing in a roll: all of them where it lacks the ledger. */
+static void add_missing(message *bundle, const uint8_t label[MAHQURITH_LABEL], const message *roll, const store *s) {
     uint8_t block[MAHQURITH_BLOCK], missing[8 * MAHQURITH_DIGEST];
     uint8_t count = 0;
-    while (messenger_look(s, row.label, row.height + count + 1, block))
+    while (count < 8 && messenger_look(s, label, height_of(roll) + count + 1, block))
         memcpy(missing + MAHQURITH_DIGEST * count++, block + MAHQURITH_STORED_DIGEST, MAHQURITH_DIGEST);
     add(bundle, (uint8_t[]){0, count}, 2);
     add(bundle, missing, MAHQURITH_DIGEST * (size_t)count);
@@ -89,7 +88,9 @@ handover messenger_bundle(const rack *old, const rack *new, const pile *finals, 
     handover h = {.previous = old->list, .own = new->list, .lists = {*finals, *initials}};
     add_list(&h.bundle, finals);
     add_list(&h.bundle, initials);
+    message newest = messenger_roll(finals);
+    mahqurith_row row = mahqurith_read_roll(BYTES(newest)).roll.rows[0];
     for (size_t i = 0; i < finals->count; i++)
-        add_missing(&h.bundle, &finals->replies[i].roll, s);
+        add_missing(&h.bundle, row.label, &finals->replies[i].roll, s);
     return h;
 }
