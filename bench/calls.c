@@ -1,4 +1,4 @@
-/* One call of the library, or the hashing that it cannot do without, at a number of ledgers.
+/* One call of the library, or the hashing that it cannot do without, at a number of ledgers; of the store, at a number of used blocks.
    calls time CALL LEDGERS prints nanoseconds of the call and of the hashing, the best of many rounds that take turns; calls stack CALL LEDGERS prints the
    bytes of stack; calls once CALL LEDGERS and calls hash CALL LEDGERS run the one or the other once, inside `measured`, for callgrind. */
 #define _GNU_SOURCE
@@ -13,6 +13,7 @@
 enum { ROUNDS = 500, STACK = 1 << 20, PAINT = 0xa5, CHUNK = 508 };
 
 static int ledgers;
+static uint8_t shelf_before[MAHQURITH_STORE], shelf[MAHQURITH_STORE];
 static struct rack first, second;
 static struct box before, box;
 static struct handover handover;
@@ -73,6 +74,18 @@ static void verdict(void)
     number = mahqurith_verdict(question, first.bytes, MAHQURITH_RACK, area, MAHQURITH_RECEIPT, signers, sizeof signers).number;
 }
 
+/* One label's heights from 1 on; all texts have their greatest length. */
+static mahqurith_place place_of(int height)
+{
+    mahqurith_place place = {.height = (uint64_t)height};
+    memset(place.label, 1, sizeof place.label);
+    return place;
+}
+
+static void store_append(void) { number = mahqurith_store_append(shelf, sizeof shelf, place_of(ledgers + 1), message, MAHQURITH_TEXT).number; }
+
+static void store_read(void) { number = mahqurith_store_read(shelf, sizeof shelf, place_of(ledgers), area, sizeof area).number; }
+
 /* The hashing that a call cannot do without. */
 static void hash(size_t length) { mahqurith_sha256(message, length, digest); }
 
@@ -132,7 +145,27 @@ static void hash_check(void)
     hash_roll();
 }
 
-enum state { BLANK, ACTIVE, PREPARED };
+/* A block's check and its entry digest. */
+static void hash_stored(void)
+{
+    hash(CHUNK);
+    hash(MAHQURITH_TEXT);
+}
+
+static void hash_store_append(void)
+{
+    for (int i = 0; i < ledgers + 1; i++)
+        hash_stored();
+    hash_entry();
+}
+
+static void hash_store_read(void)
+{
+    if (ledgers > 0)
+        hash_stored();
+}
+
+enum state { BLANK, ACTIVE, PREPARED, STORE };
 
 static const struct trial {
     const char *name;
@@ -151,6 +184,8 @@ static const struct trial {
     {"activate", PREPARED, activate, hash_activate},
     {"bytes-to-check", PREPARED, bytes_to_check, hash_check},
     {"verdict", ACTIVE, verdict, hash_rack},
+    {"store-append", STORE, store_append, hash_store_append},
+    {"store-read", STORE, store_read, hash_store_read},
 };
 
 static void must_know(int known, const char *what)
@@ -188,8 +223,19 @@ static void make_question(void)
     must_know(mahqurith_write_statement(statement, area, sizeof area).number == 0, "the receipt was not written");
 }
 
+static void fill_shelf(void)
+{
+    for (int i = 0; i < ledgers; i++)
+        must_know(mahqurith_store_append(shelf_before, sizeof shelf_before, place_of(i + 1), message, MAHQURITH_TEXT).number == 0, "the store was not filled");
+    memcpy(shelf, shelf_before, sizeof shelf);
+}
+
 static void set_scene(const struct trial *trial)
 {
+    if (trial->state == STORE) {
+        fill_shelf();
+        return;
+    }
     first = rack_of(1);
     second = rack_of(2);
     make_handover(&handover, ledgers);
@@ -213,6 +259,7 @@ static double nanoseconds(void (*what)(void))
 {
     struct timespec start, end;
     box = before;
+    memcpy(shelf, shelf_before, sizeof shelf);
     clock_gettime(CLOCK_MONOTONIC, &start);
     measured(what);
     clock_gettime(CLOCK_MONOTONIC, &end);

@@ -1,12 +1,13 @@
 /*
- * Mahqurith: the keeper's calls, the desk's verdict, the layouts and the hash, for C11 and C++17 on x86-64. The archive
- * has code for x86-64 and for no other processor.
+ * Mahqurith: the keeper's calls, the desk's verdict, the messenger's store, the layouts and the hash, for C11 and C++17 on
+ * x86-64. The archive has code for x86-64 and for no other processor.
  *
  * Every function accepts any values and any bytes, keeps nothing between calls, allocates nothing and ends. Faulty input
- * is refused with one of the numbers below. A refusal changes no byte of head, rows or area.
+ * is refused with one of the numbers below. A refusal changes no byte of head, rows, area or output.
  *
- * Arguments come in one order: the keeper's record (head, rows and how many rows), what is asked at fixed sizes, the
- * messages (each a pointer and a length), the output area (a pointer and a length).
+ * Arguments come in one order: the keeper's record (head, rows and how many rows) or the store's area (a pointer and a
+ * length), what is asked at fixed sizes, the messages (each a pointer and a length), the output area (a pointer and a
+ * length).
  *
  * An accepted call answers 0 and how many bytes it wrote: the first of the area. The rest of the area stays.
  *
@@ -14,11 +15,12 @@
  *
  * - A pointer that comes with a length (rows with how many, messages, the area) may be null where that length is 0:
  *   founding has no roll and no previous rack. Any other pointer, head and digest among them, is not null.
- * - The memory is there, for as many bytes or rows as the length says; head, rows, area and digest can be written.
+ * - The memory is there, for as many bytes or rows as the length says; head, rows, area, output and digest can be written,
+ *   but of a read of the store its output alone.
  * - Rows are aligned as C aligns a mahqurith_row: to eight bytes.
- * - What is written overlaps nothing: head, rows, area and digest neither one another nor a message. Messages may
+ * - What is written overlaps nothing: head, rows, area, output and digest neither one another nor a message. Messages may
  *   overlap each other.
- * - One call at a time on a record: while a call runs, no other call and nothing else reads or writes its head, rows or
+ * - One call at a time on a record or a store: while a call runs, no other call and nothing else reads or writes its head, rows or
  *   area or writes its messages, in whatever thread. Calls on different records may run side by side.
  *
  * What a box, a desk and a messenger must do around the calls is in docs/INTEGRATION.md; without it no signature is
@@ -43,7 +45,7 @@ extern "C" {
  * are not to be mixed.
  */
 #define MAHQURITH_VERSION_MAJOR 1
-#define MAHQURITH_VERSION_MINOR 2
+#define MAHQURITH_VERSION_MINOR 3
 
 /*
  * Answers: 0, or the refusal's number; mahqurith_meaning says what each means. Tests are made in the order that each call
@@ -76,6 +78,9 @@ enum {
     MAHQURITH_STATEMENT_NOT_ASKED = 23,
     MAHQURITH_NONCE_DIFFERS = 24,
     MAHQURITH_INPUT_TOO_LONG = 25,
+    MAHQURITH_TEXT_TOO_LONG = 33,
+    MAHQURITH_STORE_FULL = 34,
+    MAHQURITH_BLOCK_DAMAGED = 35,
     MAHQURITH_RACK_OF_TWO = 38
 };
 
@@ -110,6 +115,9 @@ static inline const char *mahqurith_meaning(uint32_t number)
         return "statement is not the one asked for: length, layout, kind, identity, rack digest or label";
     case MAHQURITH_NONCE_DIFFERS: return "nonce differs";
     case MAHQURITH_INPUT_TOO_LONG: return "hash input over 65,536 bytes";
+    case MAHQURITH_TEXT_TOO_LONG: return "text over 418 bytes";
+    case MAHQURITH_STORE_FULL: return "every block of the store is used";
+    case MAHQURITH_BLOCK_DAMAGED: return "no undamaged block answers, and the store holds a damaged one";
     case MAHQURITH_RACK_OF_TWO: return "rack of two";
     default: return "no answer of this library";
     }
@@ -132,7 +140,9 @@ enum {
     MAHQURITH_BOTH = 258,         /* Append and read: a receipt, then a reading */
     MAHQURITH_FINALISED = 3713,   /* Finalise: its statement, then up to seven blocks */
     MAHQURITH_BUNDLE = 65536,     /* a bundle, at most */
-    MAHQURITH_HASH_INPUT = 65536  /* a message of the hash, at most */
+    MAHQURITH_HASH_INPUT = 65536, /* a message of the hash, at most */
+    MAHQURITH_TEXT = 418,         /* a text of the store, at most */
+    MAHQURITH_STORE = 65536       /* an area of the store, at most: 128 blocks */
 };
 
 /* The greatest height. */
@@ -338,6 +348,50 @@ typedef struct {
 
 mahqurith_statement_read mahqurith_read_statement(const uint8_t *bytes, size_t length);
 mahqurith_written mahqurith_write_statement(mahqurith_statement statement, uint8_t *area, size_t area_length);
+
+/*
+ * The cabinet store: texts with their entry digests and tails, in an area of whole blocks of MAHQURITH_BLOCK bytes, at most
+ * MAHQURITH_STORE bytes. A new area is all zeros. A block is label 16, height 8, entry digest 32, tail 32, text length 2, up
+ * to MAHQURITH_TEXT bytes of text, zeros, and 4 bytes of check; a block of zeros is unused. What is appended reads back until
+ * someone else writes the area.
+ */
+
+/* Where the parts of a block of the store stand; the label comes first. */
+enum {
+    MAHQURITH_STORED_HEIGHT = 16,
+    MAHQURITH_STORED_DIGEST = 24,
+    MAHQURITH_STORED_TAIL = 56,
+    MAHQURITH_STORED_LENGTH = 88,
+    MAHQURITH_STORED_TEXT = 90
+};
+
+/* A label, and the height that a text is to have or that is asked for. */
+typedef struct {
+    uint8_t label[MAHQURITH_LABEL];
+    uint64_t height;
+} mahqurith_place;
+
+/* What a call of the store answers. Fields that an answer does not name are zero. */
+typedef struct {
+    uint32_t number;  /* 0 or a refusal */
+    size_t written;   /* Read: bytes written to the output */
+    uint64_t height;  /* Append, with 11: the label's greatest height, 0 for a label that the store has not */
+} mahqurith_stored;
+
+/*
+ * Puts a text into the first unused block, at the height that follows the label's greatest (1 for a label that the store has
+ * not). Refuses: 33, 2 (not whole blocks, more than 128, or a damaged one), 14, 11, 12, 34. The area stays then.
+ */
+mahqurith_stored mahqurith_store_append(uint8_t *area, size_t area_length, mahqurith_place asked, const uint8_t *text,
+                                        size_t text_length);
+
+/*
+ * Copies the first undamaged block of a label and a height to the front of the output: MAHQURITH_BLOCK bytes. Refuses: 1, 2 (not
+ * whole blocks, or more than 128), then where none answers 35 if the area holds a damaged block, otherwise 10. The output
+ * stays then.
+ */
+mahqurith_stored mahqurith_store_read(const uint8_t *area, size_t area_length, mahqurith_place asked, uint8_t *output,
+                                      size_t output_length);
 
 /* SHA-256 of FIPS 180-4, for messages of 0 to MAHQURITH_HASH_INPUT bytes. Refuses: 25; the digest stays then. */
 uint32_t mahqurith_sha256(const uint8_t *message, size_t length, uint8_t digest[MAHQURITH_DIGEST]);

@@ -60,14 +60,17 @@ static bool is_no_older(const desk *d, const mahqurith_finding *found) {
     return found->number == MAHQURITH_ACCEPTED && (found->height > d->seen.height || is_at(found, d->seen.height, d->seen.tail));
 }
 
-/* Whether the server's cues are the ledger that was found: each is appended to the tail of those before it. */
+/* Whether the server's cues are the ledger that was found: each text is hashed and appended to the tail of those before it. */
 bool desk_opens(desk *d, const mahqurith_finding *found, const store *s) {
-    uint8_t tail[MAHQURITH_DIGEST] = {0}, entry[MAHQURITH_DIGEST];
-    for (size_t i = 0; i < s->count; i++) {
-        digest_text(s->cues[i], entry);
+    uint8_t tail[MAHQURITH_DIGEST] = {0}, entry[MAHQURITH_DIGEST], block[MAHQURITH_BLOCK];
+    uint64_t height = 0;
+    while (messenger_look(s, d->question.label, height + 1, block)) {
+        size_t length = (size_t)block[MAHQURITH_STORED_LENGTH] << 8 | block[MAHQURITH_STORED_LENGTH + 1];
+        must(mahqurith_sha256(block + MAHQURITH_STORED_TEXT, length, entry) == MAHQURITH_ACCEPTED, "a text is hashed");
         step(tail, entry);
+        height++;
     }
-    bool opened = is_no_older(d, found) && is_at(found, s->count, tail);
+    bool opened = is_no_older(d, found) && is_at(found, height, tail);
     if (opened)
         d->seen = *found;
     return opened;

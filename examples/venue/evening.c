@@ -29,8 +29,8 @@ static void wake(rack *r, char name) {
 static void record(rack *r, const char *cue) {
     request q = desk_ask(&console, MAHQURITH_APPEND);
     digest_text(cue, q.asked.entry);
-    server.cues[server.count++] = cue;
     q.asked.expected = console.seen.height + 1;
+    messenger_keep(&server, q.asked.label, q.asked.expected, cue);
     pile p = messenger_carry(r, &q);
     mahqurith_finding found = desk_judge(&console, &console.list, &p);
     must(desk_keeps(&console, &q, &found), "the desk accepts a cue");

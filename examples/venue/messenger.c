@@ -57,21 +57,40 @@ static void add_list(message *bundle, const pile *p) {
     }
 }
 
-/* The digests of the server's cues that are missing in a roll. */
-static void add_missing(message *bundle, const message *roll, const store *s) {
-    uint8_t digest[MAHQURITH_DIGEST];
-    add(bundle, (uint8_t[]){0, (uint8_t)(s->count - height_of(roll))}, 2);
-    for (uint64_t i = height_of(roll); i < s->count; i++) {
-        digest_text(s->cues[i], digest);
-        add(bundle, digest, sizeof digest);
-    }
+static mahqurith_place place_of(const uint8_t label[MAHQURITH_LABEL], uint64_t height) {
+    mahqurith_place place = {.height = height};
+    memcpy(place.label, label, MAHQURITH_LABEL);
+    return place;
+}
+
+/* Keeps a cue's text in the server's store. */
+void messenger_keep(store *s, const uint8_t label[MAHQURITH_LABEL], uint64_t height, const char *cue) {
+    mahqurith_stored kept = mahqurith_store_append(s->area, sizeof s->area, place_of(label, height), (const uint8_t *)cue, strlen(cue));
+    must(kept.number == MAHQURITH_ACCEPTED, "the store takes a cue");
+}
+
+/* The store's block of a ledger at a height, if it has one. */
+bool messenger_look(const store *s, const uint8_t label[MAHQURITH_LABEL], uint64_t height, uint8_t block[MAHQURITH_BLOCK]) {
+    return mahqurith_store_read(s->area, sizeof s->area, place_of(label, height), block, MAHQURITH_BLOCK).number == MAHQURITH_ACCEPTED;
+}
+
+/* The entry digests of the store's cues that are missing in a roll: all of them where it lacks the ledger. */
+static void add_missing(message *bundle, const uint8_t label[MAHQURITH_LABEL], const message *roll, const store *s) {
+    uint8_t block[MAHQURITH_BLOCK], missing[8 * MAHQURITH_DIGEST];
+    uint8_t count = 0;
+    while (count < 8 && messenger_look(s, label, height_of(roll) + count + 1, block))
+        memcpy(missing + MAHQURITH_DIGEST * count++, block + MAHQURITH_STORED_DIGEST, MAHQURITH_DIGEST);
+    add(bundle, (uint8_t[]){0, count}, 2);
+    add(bundle, missing, MAHQURITH_DIGEST * (size_t)count);
 }
 
 handover messenger_bundle(const rack *old, const rack *new, const pile *finals, const pile *initials, const store *s) {
     handover h = {.previous = old->list, .own = new->list, .lists = {*finals, *initials}};
     add_list(&h.bundle, finals);
     add_list(&h.bundle, initials);
+    message newest = messenger_roll(finals);
+    mahqurith_row row = mahqurith_read_roll(BYTES(newest)).roll.rows[0];
     for (size_t i = 0; i < finals->count; i++)
-        add_missing(&h.bundle, &finals->replies[i].roll, s);
+        add_missing(&h.bundle, row.label, &finals->replies[i].roll, s);
     return h;
 }

@@ -45,8 +45,8 @@ typedef struct { size_t count; reply replies[BOXES]; } pile;
 /* What is brought to a box that is prepared; the piles have the signatures of the bundle's two lists. */
 typedef struct { message previous, own, bundle; pile lists[2]; } handover;
 
-/* The cue edits themselves, on the messenger's server. */
-typedef struct { size_t count; const char *cues[8]; } store;
+/* The cue edits themselves, on the messenger's server: the library's cabinet store. */
+typedef struct { uint8_t area[8 * MAHQURITH_BLOCK]; } store;
 
 typedef struct {
     mahqurith_question question; /* the newest; its identity is kept for the whole tour */
@@ -68,6 +68,8 @@ uint32_t box_activate(box *b, const handover *brought);
 
 void messenger_list(rack *r);
 pile messenger_carry(rack *r, const request *q);
+void messenger_keep(store *s, const uint8_t label[MAHQURITH_LABEL], uint64_t height, const char *cue);
+bool messenger_look(const store *s, const uint8_t label[MAHQURITH_LABEL], uint64_t height, uint8_t block[MAHQURITH_BLOCK]);
 message messenger_roll(const pile *finals);
 handover messenger_bundle(const rack *old, const rack *new, const pile *finals, const pile *initials, const store *s);
 

@@ -1,8 +1,9 @@
 //! This file holds the handover bundle: its layout, the rolls in it and the derivation of this keeper's roll.
 
+use crate::block::BLOCK;
 use crate::marks::{good_positions, other_bits_are_zero};
 use crate::refusals::{Refusal, LIST_BROKEN};
-use crate::roll::{self, Roll, BLOCK};
+use crate::roll::{self, Roll};
 use crate::row::{appended, Row};
 use crate::rules::Rules;
 

@@ -24,23 +24,76 @@ impl Lent {
 
 #[derive(Clone, Debug)]
 pub enum Call {
-    Hash { input: Vec<u8> },
-    ReadRack { bytes: Vec<u8> },
-    WriteRack { rack: Rack },
-    ReadRoll { bytes: Vec<u8> },
-    WriteRoll { roll: Box<Roll> },
-    ReadStatement { bytes: Vec<u8> },
-    WriteStatement { statement: Statement },
-    Wake { key: [u8; 32] },
-    Initialise { identity: [u8; 32], roll: Vec<u8>, previous: Vec<u8>, own: Vec<u8> },
-    New { label: [u8; 16] },
-    Append { label: [u8; 16], entry: [u8; 32], expected: u64 },
-    Read { label: [u8; 16], nonce: [u8; 16] },
-    AppendAndRead { label: [u8; 16], entry: [u8; 32], expected: u64, nonce: [u8; 16] },
-    Finalise { next: Vec<u8> },
+    Hash {
+        input: Vec<u8>,
+    },
+    ReadRack {
+        bytes: Vec<u8>,
+    },
+    WriteRack {
+        rack: Rack,
+    },
+    ReadRoll {
+        bytes: Vec<u8>,
+    },
+    WriteRoll {
+        roll: Box<Roll>,
+    },
+    ReadStatement {
+        bytes: Vec<u8>,
+    },
+    WriteStatement {
+        statement: Statement,
+    },
+    Wake {
+        key: [u8; 32],
+    },
+    Initialise {
+        identity: [u8; 32],
+        roll: Vec<u8>,
+        previous: Vec<u8>,
+        own: Vec<u8>,
+    },
+    New {
+        label: [u8; 16],
+    },
+    Append {
+        label: [u8; 16],
+        entry: [u8; 32],
+        expected: u64,
+    },
+    Read {
+        label: [u8; 16],
+        nonce: [u8; 16],
+    },
+    AppendAndRead {
+        label: [u8; 16],
+        entry: [u8; 32],
+        expected: u64,
+        nonce: [u8; 16],
+    },
+    Finalise {
+        next: Vec<u8>,
+    },
     Activate(Papers),
-    BytesToCheck { papers: Papers, list: u8, entry: u64 },
+    BytesToCheck {
+        papers: Papers,
+        list: u8,
+        entry: u64,
+    },
     Verdict(AskVerdict),
+    /// M-104; the store is the area lent.
+    StoreAppend {
+        label: [u8; 16],
+        expected: u64,
+        text: Vec<u8>,
+    },
+    /// M-104; the block is copied to the area lent.
+    StoreRead {
+        store: Vec<u8>,
+        label: [u8; 16],
+        height: u64,
+    },
 }
 
 /// "previous rack, own rack, bundle"

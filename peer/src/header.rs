@@ -56,3 +56,24 @@ impl From<Written> for Answer {
         Answer { number, written, ..Answer::default() }
     }
 }
+
+#[repr(C)]
+#[derive(Clone, Copy)]
+pub struct Place {
+    pub label: [u8; 16],
+    pub height: u64,
+}
+
+#[repr(C)]
+#[derive(Clone, Copy)]
+pub struct Stored {
+    pub number: u32,
+    pub written: usize,
+    pub height: u64,
+}
+
+impl From<Stored> for Answer {
+    fn from(Stored { number, written, height }: Stored) -> Answer {
+        Answer { number, written, height, ..Answer::default() }
+    }
+}

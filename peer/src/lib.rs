@@ -2,7 +2,9 @@
 
 #![deny(unsafe_code)]
 
+pub mod block;
 pub mod broken;
+pub mod broken_store;
 pub mod bundle;
 pub mod call;
 pub mod calls;
@@ -20,4 +22,5 @@ pub mod row;
 pub mod rules;
 pub mod sha256;
 pub mod statement;
+pub mod store;
 pub mod trial;

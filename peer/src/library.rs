@@ -3,7 +3,7 @@
 #![allow(unsafe_code)]
 
 use crate::call::{Answer, Call, HashRead, Lent, Papers, RackRead, Reply, RollRead, StatementRead, Verdict};
-use crate::header::{Asked, Question, Written};
+use crate::header::{Asked, Place, Question, Stored, Written};
 use crate::party::Party;
 use crate::rack::Rack;
 use crate::record::Head;
@@ -91,6 +91,8 @@ extern "C" {
     fn mahqurith_read_statement(bytes: In, length: usize) -> StatementRead;
     fn mahqurith_write_statement(statement: Statement, area: Out, area_length: usize) -> Written;
     fn mahqurith_sha256(message: In, length: usize, digest: Out) -> u32;
+    fn mahqurith_store_append(area: Out, area_length: usize, asked: Place, text: In, text_length: usize) -> Stored;
+    fn mahqurith_store_read(area: In, area_length: usize, asked: Place, output: Out, output_length: usize) -> Stored;
 }
 
 pub struct Library;
@@ -132,6 +134,12 @@ impl Party for Library {
             Call::WriteRack { rack } => call!(mahqurith_write_rack [*rack] [] [area]).into(),
             Call::WriteRoll { roll } => call!(mahqurith_write_roll [**roll] [] [area]).into(),
             Call::WriteStatement { statement } => call!(mahqurith_write_statement [*statement] [] [area]).into(),
+            Call::StoreAppend { label, expected, text } => {
+                store_append(area, Place { label: *label, height: *expected }, text)
+            }
+            Call::StoreRead { store, label, height } => {
+                store_read(store, Place { label: *label, height: *height }, area)
+            }
             Call::Wake { .. } => call!(mahqurith_wake {head, table} [fixed] [] []),
             Call::Initialise { roll, previous, own, .. } => {
                 call!(mahqurith_initialise {head, table} [fixed] [roll, previous, own] [area])
@@ -161,6 +169,16 @@ fn hash(input: &[u8]) -> HashRead {
         digest = [0; 32];
     }
     HashRead { number, digest }
+}
+
+fn store_append(area: &mut [u8], asked: Place, text: &[u8]) -> Answer {
+    // SAFETY: both are slices, and the borrow of the area shows that it overlaps nothing.
+    unsafe { mahqurith_store_append(area.as_mut_ptr(), area.len(), asked, text.as_ptr(), text.len()) }.into()
+}
+
+fn store_read(area: &[u8], asked: Place, output: &mut [u8]) -> Answer {
+    // SAFETY: both are slices, and the borrow of the output shows that it overlaps nothing.
+    unsafe { mahqurith_store_read(area.as_ptr(), area.len(), asked, output.as_mut_ptr(), output.len()) }.into()
 }
 
 /// What a keeper is asked at fixed sizes.

@@ -9,6 +9,7 @@ use crate::roll::{self, Roll};
 use crate::rules::{Of01, Rules};
 use crate::sha256;
 use crate::statement::{self, Statement};
+use crate::store;
 
 /// One implementation of 01. It keeps nothing between calls.
 pub trait Party {
@@ -53,6 +54,12 @@ pub fn perform_by(rules: &dyn Rules, lent: &mut Lent, call: &Call) -> Reply {
         Call::Activate(papers) => tried(calls::activate(rules, lent, papers)),
         Call::BytesToCheck { papers, list, entry } => tried(calls::bytes_to_check(rules, lent, papers, *list, *entry)),
         Call::Verdict(ask) => verdict(rules, ask),
+        Call::StoreAppend { label, expected, text } => {
+            tried(store::append(rules.store(), &mut lent.area, label, *expected, text))
+        }
+        Call::StoreRead { store, label, height } => {
+            tried(store::read(rules.store(), store, label, *height, &mut lent.area))
+        }
     }
 }
 

@@ -54,5 +54,11 @@ pub const OTHER_NONCE: Refusal = 24;
 /// "hash input over 65,536 bytes"
 pub const HASH_INPUT_TOO_LONG: Refusal = 25;
 
+/// M-104: "33 for text over 418 bytes"
+pub const TEXT_TOO_LONG: Refusal = 33;
+/// M-104: "34 exactly when every block is used"
+pub const STORE_FULL: Refusal = 34;
+/// M-104: "where no undamaged block answers 35 if the area holds a damaged block"
+pub const BLOCK_DAMAGED: Refusal = 35;
 /// M-107: "38 directly after 6 for the own rack in Initialise and for the next rack in Finalise"
 pub const RACK_OF_TWO: Refusal = 38;

@@ -1,17 +1,14 @@
 //! This file holds the roll: its rules, its digest and the 512-byte blocks in which it travels.
 
+use crate::block::{check_of, has_right_check, BLOCK, CHECKED};
 use crate::refusals::{Refusal, AREA_TOO_SHORT, ROLL_BROKEN};
 use crate::row::{Row, ROW_BYTES};
 use crate::sha256::digest_of;
 
 /// "Roll: 0 to 63 rows"
 pub const MOST_ROWS: usize = 63;
-/// "It travels in 512-byte blocks"
-pub const BLOCK: usize = 512;
 /// "nine row places"
 pub const ROWS_IN_BLOCK: usize = 9;
-/// "SHA-256 over the first 508"
-const CHECKED: usize = 508;
 
 /// A roll taken apart; rows from the count on are zero.
 #[repr(C)]
@@ -76,8 +73,7 @@ pub fn read(bytes: &[u8]) -> Result<Roll, Refusal> {
 
 /// "block number (from 0), number of blocks, row count of the whole roll, zero; … then the first 4 bytes of SHA-256 over the first 508"
 fn good_frame(block: &[u8], number: usize, number_of_blocks: usize, count: u8) -> bool {
-    block[..4] == [number as u8, number_of_blocks as u8, count, 0]
-        && block[CHECKED..] == digest_of(&[&block[..CHECKED]])[..4]
+    block[..4] == [number as u8, number_of_blocks as u8, count, 0] && has_right_check(block)
 }
 
 /// "nine row places of 56 bytes, unused ones zero"
@@ -122,8 +118,8 @@ pub fn in_blocks(rows: &[Row]) -> Vec<u8> {
             block.extend_from_slice(&row.bytes());
         }
         block.resize(CHECKED, 0);
-        let check = digest_of(&[&block]);
-        block.extend_from_slice(&check[..4]);
+        let check = check_of(&block);
+        block.extend_from_slice(&check);
         travelling.extend_from_slice(&block);
     }
     travelling

@@ -4,6 +4,7 @@ use crate::bundle::{self, Bundle, Held};
 use crate::roll::Roll;
 use crate::row::Row;
 use crate::statement::KIND_READ;
+use crate::store::{StoreOf02, StoreRules};
 
 pub trait Rules {
     /// "Majority = n div 2, plus 1."
@@ -44,6 +45,11 @@ pub trait Rules {
     /// "for each row, its height plus the count equals ours …", with M-101 where an old roll lacks it.
     fn row_is_derived(&self, our: &Row, held: &[Held]) -> bool {
         bundle::row_is_derived(our, held)
+    }
+
+    /// M-104
+    fn store(&self) -> &dyn StoreRules {
+        &StoreOf02
     }
 }
 

@@ -1,7 +1,7 @@
 //! This file tests that the structs shared with the C header lie as the header has them, by putting their places to a C compiler.
 
 use peer::call::{Answer, RackRead, RollRead, StatementRead, Verdict};
-use peer::header::{Asked, Question, Written};
+use peer::header::{Asked, Place, Question, Stored, Written};
 use peer::rack::Rack;
 use peer::record::Head;
 use peer::roll::Roll;
@@ -43,6 +43,8 @@ fn all() -> Vec<String> {
         RollRead = "mahqurith_roll_read" { number, roll }
         Statement = "mahqurith_statement" { kind, identity, own, other, roll, label, tail, nonce, height }
         StatementRead = "mahqurith_statement_read" { number, statement }
+        Place = "mahqurith_place" { label, height }
+        Stored = "mahqurith_stored" { number, written, height }
     }
 }
 

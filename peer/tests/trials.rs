@@ -1,11 +1,12 @@
 //! This file tests that the peer passes every trial, that each broken rule is caught, and that the comparison sees differences.
 
 use peer::broken::{Slip, SLIPS, SLIPS_OF_M_101, SLIPS_OF_M_107};
+use peer::broken_store::STORE_SLIPS;
 use peer::party::{Party, Peer};
 use peer::trial::lists::LISTS;
 use peer::trial::pairing::Pairing;
 use peer::trial::prng::Prng;
-use peer::trial::{history, hostile, layouts, missing, numbers, order, readings, records};
+use peer::trial::{history, hostile, layouts, missing, numbers, order, readings, records, store};
 use std::time::Instant;
 
 fn quiet<'a>(first: &'a dyn Party, second: &'a dyn Party, seed: u64) -> Pairing<'a> {
@@ -120,6 +121,46 @@ fn trials_catch_each_slip_of_m_107() {
     }
 }
 
+#[test]
+fn peer_keeps_the_store() {
+    let mut prng = Prng::new(23);
+    let mut pairing = quiet(&Peer, &Peer, 23);
+    store::run(&mut pairing, &mut prng);
+    for _ in 0..1_000 {
+        store::run_any(&mut pairing, &mut prng);
+    }
+    assert_clean(&pairing);
+    let [appended, read] = [17, 18].map(|call| pairing.tally.by_call[call][&0]);
+    println!("{} calls, {appended} appends and {read} reads accepted", pairing.tally.calls);
+    assert!(appended > 1_000 && read > 1_000);
+}
+
+/// Part by part until one of them catches the slip.
+#[test]
+fn trials_catch_each_slip_of_the_store() {
+    for slip in STORE_SLIPS {
+        let mut prng = Prng::new(24);
+        let mut pairing = quiet(&slip, &slip, 24);
+        for part in store::PARTS {
+            if pairing.tally.faults == 0 {
+                part(&mut pairing, &mut prng);
+            }
+        }
+        println!("{slip:?}: {} faults in {} calls", pairing.tally.faults, pairing.tally.calls);
+        assert!(pairing.tally.faults > 0, "{slip:?} was not caught");
+    }
+}
+
+/// The order of the refusals alone catches those that say it otherwise.
+#[test]
+fn order_catches_each_slip_of_the_stores_order() {
+    for slip in STORE_SLIPS.into_iter().filter(|slip| slip.is_of_order()) {
+        let mut pairing = quiet(&slip, &slip, 25);
+        order::run(&mut pairing, &mut Prng::new(25));
+        assert!(pairing.tally.faults > 0, "{slip:?} was not caught");
+    }
+}
+
 fn slips_of_histories() -> impl Iterator<Item = Slip> {
     SLIPS.into_iter().filter(|slip| slip.shows_in_histories())
 }
@@ -167,6 +208,20 @@ fn comparison_sees_each_slip_as_a_difference() {
         let mut prng = Prng::new(18);
         numbers::run(&mut pairing, &mut prng);
         order::run(&mut pairing, &mut prng);
+        assert!(pairing.tally.differences > 0, "{slip:?} made no difference");
+    }
+}
+
+#[test]
+fn comparison_sees_each_slip_of_the_store_as_a_difference() {
+    for slip in STORE_SLIPS {
+        let mut pairing = quiet(&Peer, &slip, 26);
+        let mut prng = Prng::new(26);
+        for part in store::PARTS {
+            if pairing.tally.differences == 0 {
+                part(&mut pairing, &mut prng);
+            }
+        }
         assert!(pairing.tally.differences > 0, "{slip:?} made no difference");
     }
 }

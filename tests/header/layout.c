@@ -282,6 +282,42 @@ static void test_joining(const uint8_t *block)
     guarded(&b);
 }
 
+static void test_store(void)
+{
+    static uint8_t store[MAHQURITH_STORE + MAHQURITH_BLOCK], out[MAHQURITH_BLOCK + 1];
+    uint8_t digest[MAHQURITH_DIGEST];
+    mahqurith_place place = {{0}, 1};
+    memset(place.label, 7, sizeof place.label);
+    memset(message, 0x61, MAHQURITH_TEXT + 1);
+    memset(store + MAHQURITH_STORE, GUARD, MAHQURITH_BLOCK);
+    expect(mahqurith_store_append(store, MAHQURITH_STORE, place, message, MAHQURITH_TEXT + 1).number == MAHQURITH_TEXT_TOO_LONG, "a text too long");
+    expect(mahqurith_store_append(store, MAHQURITH_STORE + MAHQURITH_BLOCK, place, message, 3).number == MAHQURITH_RECORD_NOT_SOUND, "a store too long");
+    expect(mahqurith_store_append(store, MAHQURITH_STORE, place, message, MAHQURITH_TEXT).number == 0, "a text appended");
+    expect(same(store, place.label, MAHQURITH_LABEL) && store[MAHQURITH_STORED_HEIGHT + 7] == 1
+               && store[MAHQURITH_STORED_LENGTH] * 256 + store[MAHQURITH_STORED_LENGTH + 1] == MAHQURITH_TEXT
+               && same(store + MAHQURITH_STORED_TEXT, message, MAHQURITH_TEXT), "label, height and text in a block");
+    expect(mahqurith_sha256(message, MAHQURITH_TEXT, digest) == 0 && same(store + MAHQURITH_STORED_DIGEST, digest, sizeof digest), "the digest in a block");
+    message[0] = 1;
+    memset(message + 1, 0, MAHQURITH_DIGEST);
+    memcpy(message + 1 + MAHQURITH_DIGEST, digest, sizeof digest);
+    expect(mahqurith_sha256(message, 1 + 2 * MAHQURITH_DIGEST, digest) == 0 && same(store + MAHQURITH_STORED_TAIL, digest, sizeof digest), "the tail in a block");
+    mahqurith_stored again = mahqurith_store_append(store, MAHQURITH_STORE, place, message, 3);
+    expect(again.number == MAHQURITH_OUT_OF_ORDER && again.height == 1 && again.written == 0, "the height with 11");
+    expect(mahqurith_store_read(store, MAHQURITH_STORE, place, out, MAHQURITH_BLOCK - 1).number == MAHQURITH_AREA_TOO_SHORT, "an output too short");
+    out[MAHQURITH_BLOCK] = GUARD;
+    mahqurith_stored read = mahqurith_store_read(store, MAHQURITH_STORE, place, out, sizeof out);
+    expect(read.number == 0 && read.written == MAHQURITH_BLOCK && read.height == 0 && same(out, store, MAHQURITH_BLOCK)
+               && out[MAHQURITH_BLOCK] == GUARD && all(store + MAHQURITH_STORE, MAHQURITH_BLOCK, GUARD), "a block read");
+    place.height = 2;
+    expect(mahqurith_store_read(store, MAHQURITH_STORE, place, out, sizeof out).number == MAHQURITH_NO_SUCH_LEDGER, "a height it has not");
+    store[MAHQURITH_BLOCK] = 1;
+    expect(mahqurith_store_read(store, MAHQURITH_STORE, place, out, sizeof out).number == MAHQURITH_BLOCK_DAMAGED, "a damaged block");
+    place.height = 1;
+    expect(mahqurith_store_append(store, MAHQURITH_BLOCK, place, message, 0).number == MAHQURITH_OUT_OF_ORDER, "order before room");
+    place.height = 2;
+    expect(mahqurith_store_append(store, MAHQURITH_BLOCK, place, message, 0).number == MAHQURITH_STORE_FULL, "a full store");
+}
+
 int main(void)
 {
     uint8_t block[MAHQURITH_BLOCK];
@@ -297,6 +333,7 @@ int main(void)
     test_roll(block);
     test_rack();
     test_joining(block);
+    test_store();
     expect(mahqurith_sha256(message, MAHQURITH_HASH_INPUT, block) == 0
                && mahqurith_sha256(message, MAHQURITH_HASH_INPUT + 1, block) == MAHQURITH_INPUT_TOO_LONG, "the hash's longest message");
     puts("header: structs, sizes and constants are the library's");

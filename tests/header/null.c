@@ -203,6 +203,19 @@ static void hash_of(const uint8_t *none)
     expect(mahqurith_sha256(none, 0, digest) == MAHQURITH_ACCEPTED && same(digest, first, 4) && same(digest + 28, last, 4), "the hash of no bytes");
 }
 
+static void store_of(const uint8_t *none, uint8_t *area)
+{
+    static uint8_t block[MAHQURITH_BLOCK], output[MAHQURITH_BLOCK];
+    mahqurith_place place = {{7}, 1};
+    memset(block, 0, sizeof block);
+    expect(mahqurith_store_append(area, 0, place, block, 1).number == MAHQURITH_STORE_FULL, "a store of no blocks");
+    expect(mahqurith_store_read(none, 0, place, output, sizeof output).number == MAHQURITH_NO_SUCH_LEDGER, "nothing in a store of no blocks");
+    expect(mahqurith_store_append(block, sizeof block, place, none, 0).number == MAHQURITH_ACCEPTED, "a text of no bytes");
+    expect(mahqurith_store_read(block, sizeof block, place, area, 0).number == MAHQURITH_AREA_TOO_SHORT, "no output");
+    expect(mahqurith_store_read(block, sizeof block, place, output, sizeof output).number == MAHQURITH_ACCEPTED && same(block, output, sizeof block),
+           "a text of no bytes read");
+}
+
 static void wake(record *x, uint8_t key)
 {
     memset(asked.key, key, sizeof asked.key);
@@ -251,8 +264,10 @@ int main(void)
     layouts_of(place, place);
     hash_of(NULL);
     hash_of(place);
+    store_of(NULL, NULL);
+    store_of(place, place);
     for (size_t i = 0; i < sizeof place; i++)
         expect(place[i] == GUARD, "something was written where the length is 0");
-    printf("null: %d calls of the keeper, the verdict, the layouts and the hash take null where a length is 0\n", tried);
+    printf("null: %d calls of the keeper, the verdict, the layouts, the hash and the store take null where a length is 0\n", tried);
     return 0;
 }

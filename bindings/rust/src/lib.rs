@@ -1,4 +1,4 @@
-//! Mahqurith from Rust: a keeper's record and its calls, a desk's verdict, the layouts and the hash, over the static library whose every function is
+//! Mahqurith from Rust: a keeper's record and its calls, a desk's verdict, the messenger's store, the layouts and the hash, over the static library whose every function is
 //! proved. Nothing here decides anything: each function passes on what it is given and turns the answer into a `Result`.
 //!
 //! Areas are made here at their exact sizes and a record always has 63 rows, so refusal 1 and a table of another length cannot occur.
@@ -33,12 +33,14 @@ mod desk;
 mod keeper;
 mod layouts;
 mod refusal;
+mod store;
 pub mod sys;
 
 pub use desk::{verdict, Found, Kind, Question};
 pub use keeper::{Finalised, Keeper, List};
 pub use layouts::{Rack, Roll, Statement};
 pub use refusal::Refusal;
+pub use store::{Block, Store};
 pub use sys::{Head, Row};
 
 /// A digest of SHA-256, a tail, or an identity.

@@ -131,6 +131,25 @@ pub struct Statement {
     pub height: u64,
 }
 
+/// A label and a height of the store.
+#[repr(C)]
+#[derive(Clone, Copy, PartialEq, Eq, Debug)]
+#[allow(missing_docs)]
+pub struct Place {
+    pub label: [u8; 16],
+    pub height: u64,
+}
+
+/// What a call of the store answers.
+#[repr(C)]
+#[derive(Clone, Copy, PartialEq, Eq, Debug)]
+#[allow(missing_docs)]
+pub struct Stored {
+    pub number: u32,
+    pub written: usize,
+    pub height: u64,
+}
+
 /// A reading: 0 and what was read, or a refusal and zeros.
 #[repr(C)]
 #[derive(Clone, Copy, PartialEq, Eq, Debug)]
@@ -217,5 +236,7 @@ extern "C" {
     pub fn mahqurith_write_roll(roll: Roll, area: *mut u8, area_length: usize) -> Written;
     pub fn mahqurith_read_statement(bytes: *const u8, length: usize) -> Reading<Statement>;
     pub fn mahqurith_write_statement(statement: Statement, area: *mut u8, area_length: usize) -> Written;
+    pub fn mahqurith_store_append(area: *mut u8, area_length: usize, asked: Place, text: *const u8, text_length: usize) -> Stored;
+    pub fn mahqurith_store_read(area: *const u8, area_length: usize, asked: Place, output: *mut u8, output_length: usize) -> Stored;
     pub fn mahqurith_sha256(message: *const u8, length: usize, digest: *mut [u8; 32]) -> u32;
 }

@@ -106,6 +106,18 @@ nonce-differs = 24
 abbrev pub input-too-long : ℕ
 input-too-long = 25
 
+-- text over 418 bytes
+abbrev pub text-too-long : ℕ
+text-too-long = 33
+
+-- every block of the store is used
+abbrev pub store-full : ℕ
+store-full = 34
+
+-- no undamaged block answers, and the store holds a damaged one
+abbrev pub block-damaged : ℕ
+block-damaged = 35
+
 -- rack of two
 abbrev pub rack-of-two : ℕ
 rack-of-two = 38

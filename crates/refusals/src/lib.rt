@@ -1,4 +1,4 @@
-// The answers of every call: 0 on acceptance, otherwise the refusal's number in document 01's table.
+// The answers of every call: 0 on acceptance, otherwise the refusal's number in document 01's table or in a request of document 02.
 
 // The call is accepted.
 pub const ACCEPTED: u32 = 0;
@@ -77,6 +77,15 @@ pub const NONCE_DIFFERS: u32 = 24;
 
 // Hash input over 65,536 bytes.
 pub const INPUT_TOO_LONG: u32 = 25;
+
+// Text over 418 bytes.
+pub const TEXT_TOO_LONG: u32 = 33;
+
+// Every block of the store is used.
+pub const STORE_FULL: u32 = 34;
+
+// No undamaged block answers, and the store holds a damaged one.
+pub const BLOCK_DAMAGED: u32 = 35;
 
 // Rack of two.
 pub const RACK_OF_TWO: u32 = 38;

@@ -1,4 +1,4 @@
--- Laws of strings that are compared part by part, filled up with zeros, and hashed. Assumes nothing.
+-- Laws of strings that are compared part by part and filled up with zeros. Assumes nothing.
 use mathlib.Core.Path.{_≡_, refl, sym, ap, ap₂, _∙_}
 use mathlib.Core.Bool.{Bool, true, false, _&&_}
 use mathlib.Core.List.{List, [], _∷_, _++_}
@@ -11,14 +11,7 @@ use lib.Dec.{eqb}
 use Rattle.octets.specs.Strings.{put, all-zero, same}
 use Rattle.octets.proofs.Parts.{drop-replicate}
 use Rattle.octets.proofs.RoundTrips.{and-left, and-right}
-use Rattle.hash.specs.Promise.{longest, Outcome, hashing}
-use Rattle.hash.specs.Digest.{digest}
-use Rattle.hash.proofs.Promised.{hashed, sha256-length}
 use Rattle.roll.specs.Roll.{filled}
-
--- the digest area after a message that is not too long
-pub hashed-length : (m a : List ℕ) (o : Outcome) → o ≡ hashing m a → length m ≤ longest → length (o .area) ≡ 32
-hashed-length m a o e h = ap (λ (p : Outcome). length (p .area)) (e ∙ hashed m a h) ∙ sha256-length m
 
 and-assoc : (p q r : Bool) → (p && (q && r)) ≡ ((p && q) && r)
 and-assoc true q r = refl

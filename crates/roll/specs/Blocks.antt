@@ -6,8 +6,9 @@ use mathlib.Core.List.{List, [], _∷_, _++_}
 use Prim.Native.Nat.{ℕ, zero, suc, _+_, _-_, _*_, _/_}
 use lib.ListN.{take, drop}
 use lib.Dec.{eqb}
-use Rattle.hash.specs.Sha256.{sha256}
 use Rattle.rows.specs.Sizes.{row-bytes}
+pub use Rattle.checks.specs.Check.{block-bytes, checked-bytes, check-bytes}
+unfoldable pub use Rattle.checks.specs.Check.{checked}
 
 -- the row places of a block
 abbrev pub places : ℕ
@@ -18,16 +19,6 @@ places-bytes = places * row-bytes
 
 abbrev pub head-bytes : ℕ
 head-bytes = 4
-
--- head and places
-abbrev pub checked-bytes : ℕ
-checked-bytes = head-bytes + places-bytes
-
-abbrev pub check-bytes : ℕ
-check-bytes = 4
-
-abbrev pub block-bytes : ℕ
-block-bytes = checked-bytes + check-bytes
 
 -- where a block says the row count of the whole roll
 abbrev pub count-place : ℕ
@@ -47,10 +38,6 @@ head count b = b ∷ blocks count ∷ count ∷ layout-byte ∷ []
 -- the places of block b, out of the table
 unfoldable pub places-of : List ℕ → ℕ → List ℕ
 places-of rows b = take places-bytes (drop (places-bytes * b) rows)
-
--- a block's first bytes with their check behind them
-unfoldable pub checked : List ℕ → List ℕ
-checked s = s ++ take check-bytes (sha256 s)
 
 -- block b of a roll
 unfoldable pub block : ℕ → List ℕ → ℕ → List ℕ

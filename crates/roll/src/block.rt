@@ -1,5 +1,6 @@
 // The blocks of a roll: how many, and one block made.
-use rows::DIGEST;
+use checks::BLOCK;
+use checks::CHECKED;
 use rows::ROW;
 ghost use mathlib.Core.Path.{_≡_};
 ghost use Prim.Native.Nat.{_≤_, _<_};
@@ -7,18 +8,12 @@ ghost use lib.ListN.{length};
 ghost use Rattle.rows.specs.Sizes.{most-rows, table-bytes};
 ghost use Rattle.roll.specs.Blocks.{blocks, block};
 
-// The row places of a block, its head, its places and its check, and the whole of it.
+// The row places of a block, its head and its places; the check comes behind them.
 pub const PLACES: usize = 9;
 
 pub const HEAD: usize = 4;
 
 pub const PLACES_BYTES: usize = PLACES * ROW;
-
-pub const CHECKED: usize = HEAD + PLACES_BYTES;
-
-pub const CHECK: usize = 4;
-
-pub const BLOCK: usize = CHECKED + CHECK;
 
 // Where a block says the row count of the whole roll, and the byte behind it.
 pub const COUNT_PLACE: usize = 2;
@@ -47,8 +42,7 @@ pub fn made_block(count: u8, rows: &[u8], b: usize) -> [u8; BLOCK]
     block[COUNT_PLACE] = count;
     block[3] = LAYOUT;
     octets::copy_at(&mut block, HEAD, &rows[from..from + PLACES_BYTES]);
-    let mut digest = [0u8; DIGEST];
-    hash::sha256(&block[..CHECKED], &mut digest);
-    octets::copy_at(&mut block, CHECKED, &digest[..CHECK]);
+    let check = checks::check_of(&block[..CHECKED]);
+    octets::copy_at(&mut block, CHECKED, &check);
     block
 }

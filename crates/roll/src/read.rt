@@ -1,10 +1,10 @@
 // Reading a roll.
-use crate::block::BLOCK;
 use crate::block::COUNT_PLACE;
 use crate::block::HEAD;
 use crate::block::PLACES_BYTES;
 use crate::block::blocks;
 use crate::block::made_block;
+use checks::BLOCK;
 use octets::Counted;
 use rows::MOST;
 use rows::TABLE;

@@ -1,7 +1,7 @@
 // Writing a roll.
-use crate::block::BLOCK;
 use crate::block::blocks;
 use crate::block::made_block;
+use checks::BLOCK;
 use octets::Written;
 use rows::TABLE;
 ghost use mathlib.Core.Path.{_≡_};

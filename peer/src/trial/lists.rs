@@ -4,7 +4,7 @@ use crate::call::Call;
 use crate::refusals::Refusal;
 
 /// The call's name and the numbers that 01 lists for it, in 01's order.
-pub const LISTS: [(&str, &[Refusal]); 17] = [
+pub const LISTS: [(&str, &[Refusal]); 19] = [
     ("Hash", &[25]),
     ("Read rack", &[6]),
     ("Write rack", &[6, 1]),
@@ -22,6 +22,8 @@ pub const LISTS: [(&str, &[Refusal]); 17] = [
     ("Activate", &[2, 5, 6, 21, 22, 15, 16, 17, 18, 19, 20]),
     ("Bytes to check", &[1, 2, 5, 6, 21, 22, 15]),
     ("Verdict", &[6, 22, 23, 24, 16, 17, 18]),
+    ("Store append", &[33, 2, 14, 11, 12, 34]),
+    ("Store read", &[1, 2, 35, 10]),
 ];
 
 /// Wake to Bytes to check are calls on a record.
@@ -48,5 +50,7 @@ pub fn place(call: &Call) -> usize {
         Call::Activate(_) => 14,
         Call::BytesToCheck { .. } => 15,
         Call::Verdict(_) => 16,
+        Call::StoreAppend { .. } => 17,
+        Call::StoreRead { .. } => 18,
     }
 }

@@ -3,6 +3,7 @@
 use super::order_calls;
 use super::order_desk;
 use super::order_handover;
+use super::order_store;
 use super::pairing::Pairing;
 use super::prng::Prng;
 use crate::call::{Call, Lent};
@@ -37,6 +38,7 @@ pub fn plans() -> Vec<Plan> {
     let mut plans = order_calls::plans();
     plans.extend(order_handover::plans());
     plans.extend(order_desk::plans());
+    plans.extend(order_store::plans());
     plans
 }
 

@@ -1,6 +1,7 @@
 //! This file holds the comparison: one call on two parties over copies of the same data, and the tally of all of them.
 
 use super::lists::{place, FIRST_ON_RECORD, LAST_ON_RECORD, LISTS};
+use crate::block::BLOCK;
 use crate::call::{Call, Lent, Reply};
 use crate::party::Party;
 use crate::record::is_sound;
@@ -114,8 +115,13 @@ impl<'a> Pairing<'a> {
         if reply.number() != 0 && before != after {
             self.fault(format!("refusal {} changed what was lent; call {}", reply.number(), brief(call)));
         }
-        if written > after.area.len() || before.area[written..] != after.area[written..] {
-            self.fault(format!("bytes after the {written} written changed; call {}", brief(call)));
+        let stays = match call {
+            Call::StoreAppend { .. } => one_unused_block_changed(&before.area, &after.area) || reply.number() != 0,
+            _ => written <= after.area.len() && before.area[written..] == after.area[written..],
+        };
+        if !stays {
+            let what = "more or less of the area changed than the bytes written, or the store's block";
+            self.fault(format!("{what}; {written} written; call {}", brief(call)));
         }
         let on_record = place(call) >= FIRST_ON_RECORD && place(call) <= LAST_ON_RECORD;
         if on_record && reply.number() == 0 && !is_sound(&after.head, &after.table) {
@@ -145,6 +151,13 @@ impl<'a> Pairing<'a> {
             self.told = Instant::now();
         }
     }
+}
+
+/// M-104: the store appends "into the first unused block" and writes nothing else.
+fn one_unused_block_changed(before: &[u8], after: &[u8]) -> bool {
+    let pairs = before.chunks(BLOCK).zip(after.chunks(BLOCK));
+    let changed: Vec<&[u8]> = pairs.filter(|(before, after)| before != after).map(|(before, _)| before).collect();
+    before.len() == after.len() && changed == [&[0; BLOCK]]
 }
 
 /// The call's text, shortened where arguments are long.

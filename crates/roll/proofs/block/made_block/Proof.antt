@@ -7,11 +7,8 @@ use denote.Ref.{now}
 use borrow.Author.Needs.{needs}
 use lib.ListN.{take, drop, length-take, length-drop}
 use Rattle.octets.specs.Strings.{put}
-use Rattle.hash.specs.Promise.{Outcome}
 use Rattle.hash.specs.Sha256.{sha256}
-use Rattle.hash.proofs.Promised.{hashed}
 use Rattle.roll.specs.Blocks.{head, places-of, checked, block, places-bytes, checked-bytes, check-bytes, layout-byte}
-use Rattle.roll.proofs.Strings.{hashed-length}
 use Rattle.roll.proofs.Blocks.{blocks-within, block-made}
 use Rattle.roll.proofs.block.made_block.Statement.{statement}
 use Rattle.roll.proofs.block.made_block.Tie as tie
@@ -61,44 +58,37 @@ copy-at-requires c κs = search needs
 array-share-prefix-block : tie.Need-array-share-prefix-block
 array-share-prefix-block c = search needs
 
-slice-aggregate-sha256 : tie.Need-slice-aggregate-sha256
-slice-aggregate-sha256 c = simp length-take (omega (arith, c .before .before .copy-at .kept .0))
+slice-aggregate-check-of : tie.Need-slice-aggregate-check-of
+slice-aggregate-check-of c = simp length-take (omega (arith, c .before .before .copy-at .kept .0))
 
-sha256-requires : tie.Need-sha256-requires
-sha256-requires c κs = search needs
+check-of-requires : tie.Need-check-of-requires
+check-of-requires c κs = simp length-take (omega arith)
 
 slice-aggregate-copy-at-2 : tie.Need-slice-aggregate-copy-at-2
 slice-aggregate-copy-at-2 c = search needs
 
-array-share-prefix-digest : tie.Need-array-share-prefix-digest
-array-share-prefix-digest c =
-    let l = hashed-length _ _ _ (c .before .sha256 .ensures) (simp length-take (omega arith)) in
-    omega arith
-
 slice-aggregate-copy-at-3 : tie.Need-slice-aggregate-copy-at-3
-slice-aggregate-copy-at-3 c =
-    let l = hashed-length _ _ _ (c .before .before .sha256 .ensures) (simp length-take (omega arith)) in
-    simp length-take (omega arith)
+slice-aggregate-copy-at-3 c = search needs
 
 copy-at-requires-2 : tie.Need-copy-at-requires-2
-copy-at-requires-2 c κs = simp length-take (omega (arith, c .before .before .before .before .before .before .copy-at .kept .0))
+copy-at-requires-2 c κs = omega (arith, c .before .before .before .before .before .copy-at .kept .0)
 
 returns : tie.Need-returns
 unfolding head block places-of
 returns c =
-    let a = c .before .before .before .before .before .before .before .before .before .before .before .before .before .args in
+    let o = c .before .before .before .before .before .before .before .before .before .before .before .before in
+    let a = o .args in
     let r = now (a .rows) in
-    let p = c .before .before .before .before .before .before .before .before .before .before .before .before .before .pre in
-    let most = blocks-within (a .count) (p .0) in
+    let most = blocks-within (a .count) (o .pre .0) in
     let e : places-bytes * a .b + places-bytes - places-bytes * a .b ≡ places-bytes = omega arith in
     let part : List ℕ = take (places-bytes * a .b + places-bytes - places-bytes * a .b) (drop (places-bytes * a .b) r) in
-    let first = c .before .before .before .before .before .before .before .before .copy-at .ensures in
-    let digest = ap (λ (o : Outcome). o .area) (c .before .before .before .before .sha256 .ensures ∙ hashed _ _ (simp length-take (omega arith))) in
+    let first = c .before .before .before .before .before .before .before .copy-at .ensures in
     c .before .copy-at2 .ensures
-    ∙ ap₂ (λ (d x : List ℕ). put d checked-bytes (take check-bytes x)) first (digest ∙ ap (λ (d : List ℕ). sha256 (take checked-bytes d)) first)
+    ∙ ap₂ (λ (d x : List ℕ). put d checked-bytes x) first
+    (c .before .before .before .before .check-of .ensures ∙ ap (λ (d : List ℕ). take check-bytes (sha256 (take checked-bytes d))) first)
     ∙ block-made _ part refl (simp (length-take, length-drop) (omega arith))
     ∙ ap₂ (λ (n m : ℕ). checked ((a .b ∷ n ∷ a .count ∷ layout-byte ∷ []) ++ take m (drop (places-bytes * a .b) r)))
-    (c .before .before .before .before .before .before .before .before .before .before .before .blocks2 .ensures) e
+    (c .before .before .before .before .before .before .before .before .before .before .blocks2 .ensures) e
 
 pub made-block-spec : {M : Type 1} → statement M
 made-block-spec =
@@ -119,10 +109,9 @@ made-block-spec =
     part-copy-at-end
     copy-at-requires
     array-share-prefix-block
-    slice-aggregate-sha256
-    sha256-requires
+    slice-aggregate-check-of
+    check-of-requires
     slice-aggregate-copy-at-2
-    array-share-prefix-digest
     slice-aggregate-copy-at-3
     copy-at-requires-2
     returns)

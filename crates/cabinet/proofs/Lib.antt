@@ -1,0 +1,2 @@
+-- The laws of a block of the store.
+pub mod Blocks

@@ -1,0 +1,2 @@
+-- The laws of a block's check.
+pub mod Checks
