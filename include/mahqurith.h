@@ -15,13 +15,14 @@
  *
  * - A pointer that comes with a length (rows with how many, messages, the area) may be null where that length is 0:
  *   founding has no roll and no previous rack. Any other pointer, head and digest among them, is not null.
- * - The memory is there, for as many bytes or rows as the length says; head, rows, area, output and digest can be written,
- *   but of a read of the store its output alone.
+ * - The memory is there, for as many bytes or rows as the length says; what is not const here can be written. A call
+ *   that leaves the head writes no byte of it, and one that leaves the rows, or that refuses, writes none of these.
  * - Rows are aligned as C aligns a mahqurith_row: to eight bytes.
  * - What is written overlaps nothing: head, rows, area, output and digest neither one another nor a message. Messages may
  *   overlap each other.
  * - One call at a time on a record or a store: while a call runs, no other call and nothing else reads or writes its head, rows or
- *   area or writes its messages, in whatever thread. Calls on different records may run side by side.
+ *   area or writes its messages, in whatever thread. Calls on different records may run side by side, and so may calls
+ *   that take head and rows const on one record.
  *
  * What a box, a desk and a messenger must do around the calls is in docs/INTEGRATION.md; without it no signature is
  * worth anything.
@@ -231,8 +232,8 @@ mahqurith_answer mahqurith_append(mahqurith_head *head, mahqurith_row *rows, siz
                                   uint8_t *area, size_t area_length);
 
 /* Reads label, nonce. Area: MAHQURITH_READING. Refuses: 1, 2, 4, 10. Head and rows stay. */
-mahqurith_answer mahqurith_read(mahqurith_head *head, mahqurith_row *rows, size_t row_count, mahqurith_asked asked,
-                                uint8_t *area, size_t area_length);
+mahqurith_answer mahqurith_read(const mahqurith_head *head, const mahqurith_row *rows, size_t row_count,
+                                mahqurith_asked asked, uint8_t *area, size_t area_length);
 
 /* Reads label, entry, expected, nonce. Area: MAHQURITH_BOTH. Refuses as Append. Two statements, each signed by itself. */
 mahqurith_answer mahqurith_append_and_read(mahqurith_head *head, mahqurith_row *rows, size_t row_count,
@@ -244,24 +245,24 @@ mahqurith_answer mahqurith_append_and_read(mahqurith_head *head, mahqurith_row *
  * keeper that is finalised already answers with its earlier statement and roll, does not read next, and marks the answer
  * as a repeat: there is nothing to sign.
  */
-mahqurith_answer mahqurith_finalise(mahqurith_head *head, mahqurith_row *rows, size_t row_count, const uint8_t *next,
-                                    size_t next_length, uint8_t *area, size_t area_length);
+mahqurith_answer mahqurith_finalise(mahqurith_head *head, const mahqurith_row *rows, size_t row_count,
+                                    const uint8_t *next, size_t next_length, uint8_t *area, size_t area_length);
 
 /*
  * Writes nothing but the status. Refuses: 2, 5, 6 (previous, then own), 21, 22, 15, 16, then for each old entry 17, 18, for
  * each new entry 17, 19, then 20. The marks in the bundle are what this box's own chip found of the bytes that Bytes to
  * check gives; a messenger's marks are never passed on.
  */
-mahqurith_answer mahqurith_activate(mahqurith_head *head, mahqurith_row *rows, size_t row_count, const uint8_t *previous,
-                                    size_t previous_length, const uint8_t *own, size_t own_length,
-                                    const uint8_t *bundle, size_t bundle_length);
+mahqurith_answer mahqurith_activate(mahqurith_head *head, const mahqurith_row *rows, size_t row_count,
+                                    const uint8_t *previous, size_t previous_length, const uint8_t *own,
+                                    size_t own_length, const uint8_t *bundle, size_t bundle_length);
 
 /*
  * Reads list, number. Area: MAHQURITH_HANDOVER. Refuses: 1, 2, 5, 6 (previous, then own), 21, 22, 15, then 22 where the list
  * has no such entry. Writes the statement that the entry's marks speak of: the chip checks the signature on these bytes and
  * signs nothing. Head and rows stay.
  */
-mahqurith_answer mahqurith_bytes_to_check(mahqurith_head *head, mahqurith_row *rows, size_t row_count,
+mahqurith_answer mahqurith_bytes_to_check(const mahqurith_head *head, const mahqurith_row *rows, size_t row_count,
                                           mahqurith_asked asked, const uint8_t *previous, size_t previous_length,
                                           const uint8_t *own, size_t own_length, const uint8_t *bundle,
                                           size_t bundle_length, uint8_t *area, size_t area_length);

@@ -1,6 +1,6 @@
 #!/usr/bin/env bash
 # The header as C11 and as C++17 with all warnings as errors; its sizes, offsets, constants and meanings against the library; null pointers
-# where a length is 0.
+# where a length is 0; records that cannot be written.
 set -euo pipefail
 cd "$(dirname "$0")/.."
 .ci/need gcc g++ python3
@@ -16,7 +16,7 @@ warnings="-Wall -Wextra -Wpedantic -Wconversion -Wshadow -Wstrict-aliasing -Werr
 python3 tests/header/numbers.py >"$built/numbers.c"
 
 # shellcheck disable=SC2086 # lists of words
-for file in "$built/numbers.c" tests/header/layout.c tests/header/null.c; do
+for file in "$built/numbers.c" tests/header/layout.c tests/header/null.c tests/header/kept.c; do
     program=$built/$(basename "$file" .c)
     gcc -std=c11 $warnings -Wstrict-prototypes -I"$library" -o "$program" "$file" "$library/libmahqurith.a"
     g++ -x c++ -std=c++17 $warnings -I"$library" -o "$program-cpp" "$file" -x none "$library/libmahqurith.a"

@@ -130,8 +130,11 @@ impl Keeper {
     }
 
     /// Read. The chip signs the reading.
-    pub fn read(&mut self, label: &Label, nonce: &Nonce) -> Result<[u8; READING], Refusal> {
-        self.on_ledger(sys::mahqurith_read, Asked { label: *label, nonce: *nonce, ..Asked::default() })
+    pub fn read(&self, label: &Label, nonce: &Nonce) -> Result<[u8; READING], Refusal> {
+        let mut area = [0; READING];
+        let asked = Asked { label: *label, nonce: *nonce, ..Asked::default() };
+        accepted(unsafe { sys::mahqurith_read(&self.head, self.rows.as_ptr(), ROWS, asked, area.as_mut_ptr(), READING) })?;
+        Ok(area)
     }
 
     /// Append and read. The chip signs receipt and reading, each by itself.
@@ -146,7 +149,7 @@ impl Keeper {
     pub fn finalise(&mut self, next: &[u8]) -> Result<Finalised, Refusal> {
         let mut area = [0; FINALISED];
         let answer = accepted(unsafe {
-            sys::mahqurith_finalise(&mut self.head, self.rows.as_mut_ptr(), ROWS, next.as_ptr(), next.len(), area.as_mut_ptr(), FINALISED)
+            sys::mahqurith_finalise(&mut self.head, self.rows.as_ptr(), ROWS, next.as_ptr(), next.len(), area.as_mut_ptr(), FINALISED)
         })?;
         let (statement, roll) = area[..answer.written].split_at(HANDOVER);
         Ok(Finalised { statement: statement.try_into().expect("129 bytes"), roll: roll.to_vec(), repeat: answer.repeat })
@@ -157,7 +160,7 @@ impl Keeper {
         accepted(unsafe {
             sys::mahqurith_activate(
                 &mut self.head,
-                self.rows.as_mut_ptr(),
+                self.rows.as_ptr(),
                 ROWS,
                 previous.as_ptr(),
                 previous.len(),
@@ -171,13 +174,13 @@ impl Keeper {
     }
 
     /// Bytes to check: the statement that an entry's marks speak of. The chip checks it and never signs it.
-    pub fn bytes_to_check(&mut self, previous: &[u8], own: &[u8], bundle: &[u8], list: List, number: u64) -> Result<[u8; HANDOVER], Refusal> {
+    pub fn bytes_to_check(&self, previous: &[u8], own: &[u8], bundle: &[u8], list: List, number: u64) -> Result<[u8; HANDOVER], Refusal> {
         let mut area = [0; HANDOVER];
         let asked = Asked { list: list as u8, number, ..Asked::default() };
         accepted(unsafe {
             sys::mahqurith_bytes_to_check(
-                &mut self.head,
-                self.rows.as_mut_ptr(),
+                &self.head,
+                self.rows.as_ptr(),
                 ROWS,
                 asked,
                 previous.as_ptr(),

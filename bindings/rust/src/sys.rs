@@ -178,7 +178,7 @@ extern "C" {
     ) -> Answer;
     pub fn mahqurith_new(head: *mut Head, rows: *mut Row, row_count: usize, asked: Asked, area: *mut u8, area_length: usize) -> Answer;
     pub fn mahqurith_append(head: *mut Head, rows: *mut Row, row_count: usize, asked: Asked, area: *mut u8, area_length: usize) -> Answer;
-    pub fn mahqurith_read(head: *mut Head, rows: *mut Row, row_count: usize, asked: Asked, area: *mut u8, area_length: usize) -> Answer;
+    pub fn mahqurith_read(head: *const Head, rows: *const Row, row_count: usize, asked: Asked, area: *mut u8, area_length: usize) -> Answer;
     pub fn mahqurith_append_and_read(
         head: *mut Head,
         rows: *mut Row,
@@ -189,7 +189,7 @@ extern "C" {
     ) -> Answer;
     pub fn mahqurith_finalise(
         head: *mut Head,
-        rows: *mut Row,
+        rows: *const Row,
         row_count: usize,
         next: *const u8,
         next_length: usize,
@@ -198,7 +198,7 @@ extern "C" {
     ) -> Answer;
     pub fn mahqurith_activate(
         head: *mut Head,
-        rows: *mut Row,
+        rows: *const Row,
         row_count: usize,
         previous: *const u8,
         previous_length: usize,
@@ -208,8 +208,8 @@ extern "C" {
         bundle_length: usize,
     ) -> Answer;
     pub fn mahqurith_bytes_to_check(
-        head: *mut Head,
-        rows: *mut Row,
+        head: *const Head,
+        rows: *const Row,
         row_count: usize,
         asked: Asked,
         previous: *const u8,

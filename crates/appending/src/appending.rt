@@ -1,9 +1,8 @@
 // Append.
 use crate::table::Shown;
 use crate::table::move_on;
-use ledgers::place_of;
 use ledgers::receipt;
-use ledgers::unfound;
+use ledgers::seek;
 use record::acceptance;
 use record::give;
 use record::refusal;
@@ -17,9 +16,12 @@ ghost use mathlib.Core.Path.{_≡_};
 ghost use Prim.Native.Nat.{_+_};
 ghost use lib.Dec.{eqb};
 ghost use Rattle.refusals.specs.Order.{first};
+ghost use Rattle.rows.specs.Search.{find};
 ghost use Rattle.statement.specs.Kinds.{receipt-size};
 ghost use Rattle.rules.specs.Outcomes.{Lent, outcome};
+ghost use Rattle.rules.specs.Rows.{row-number};
 ghost use Rattle.rules.specs.Append.{appending};
+ghost use Rattle.ledgers.specs.Tests.{place-if};
 ghost use Rattle.appending.specs.Known.{Appendable, Entered};
 ghost use Rattle.appending.specs.Tests.{ordered, append-told};
 
@@ -46,7 +48,13 @@ fn unordered(expected: u64, height: u64) -> u32
     refusals::ACCEPTED
 }
 
-// The answer of a refused append into an area of so many bytes; its number is 0 where nothing refuses.
+// What an append tells: its answer and head, and the number of the row that moves on, or 0 where the call is refused.
+pub struct Moved {
+    pub told: Told,
+    pub place: usize,
+}
+
+// The answer of a refused append into an area of so many bytes; its number is 0 where nothing refuses, and the row is found.
 pub fn refusal_of_append(
     head: Head,
     table: &[u8],
@@ -54,29 +62,41 @@ pub fn refusal_of_append(
     expected: u64,
     area: &[u8],
     size: usize,
-) -> Told
-    ensures { λ r. ⌜ r ≡ append-told size (record { head = head; table = now (table .entry); area = now (area .entry) }) label expected ⌝ }
+) -> Moved
+    ensures told { λ r. ⌜ r .told ≡ append-told size (record { head = head; table = now (table .entry); area = now (area .entry) }) label expected ⌝ }
+    ensures place { λ r. ⌜ r .place ≡ place-if (r .told .answer .number) (find (head .count) (now (table .entry)) label) ⌝ }
 {
-    let n = unfound(head, table, label, area, size);
-    if n != refusals::ACCEPTED {
-        return refusal(n, 0, head);
+    let sought = seek(head, table, label, area, size);
+    if sought.number != refusals::ACCEPTED {
+        let told = refusal(sought.number, 0, head);
+        return Moved { told, place: 0 };
     }
-    let height = height_at(table, place_of(head, table, label));
-    refusal(unordered(expected, height), height, head)
+    let height = height_at(table, sought.place);
+    let number = unordered(expected, height);
+    let told = refusal(number, height, head);
+    if number != refusals::ACCEPTED {
+        return Moved { told, place: 0 };
+    }
+    Moved {
+        told,
+        place: sought.place,
+    }
 }
 
-// The row moves on, and its receipt is given.
+// Row i, the ledger's, moves on, and its receipt is given.
 pub fn enter(
     head: Head,
     table: &mut [u8],
+    i: usize,
     label: [u8; 16],
     entry: [u8; 32],
     area: &mut [u8],
 ) -> Shown
-    requires { ⌜ Appendable receipt-size (record { head = head; table = now table; area = now area }) label ⌝ }
-    ensures { λ r. ⌜ Entered (record { head = head; table = now (table .entry); area = now (area .entry) }) label entry (now (table .exit)) (now (area .exit)) (r .tail) (r .height) ⌝ }
+    requires { ⌜ (Appendable receipt-size (record { head = head; table = now table; area = now area }) label)
+        × (i ≡ row-number (find (head .count) (now table) label)) ⌝ }
+    ensures { λ r. ⌜ Entered (record { head = head; table = now (table .entry); area = now (area .entry) }) label entry
+        (now (table .exit)) (now (area .exit)) (r .tail) (r .height) ⌝ }
 {
-    let i = place_of(head, table, label);
     let row = move_on(table, i, entry);
     let tail = row.tail;
     let kind = Kind::Append { height: row.height };
@@ -92,13 +112,17 @@ pub fn append(
     entry: [u8; 32],
     expected: u64,
     area: &mut [u8],
-) -> Told
-    ensures { λ r. ⌜ outcome r (now (table .exit)) (now (area .exit)) ≡ appending (record { head = head; table = now (table .entry); area = now (area .entry) }) label entry expected ⌝ }
+) -> Moved
+    ensures outcome { λ r. ⌜ outcome (r .told) (now (table .exit)) (now (area .exit))
+        ≡ appending (record { head = head; table = now (table .entry); area = now (area .entry) }) label entry expected ⌝ }
+    ensures place { λ r. ⌜ r .place ≡ place-if (r .told .answer .number) (find (head .count) (now (table .entry)) label) ⌝ }
 {
-    let refused = refusal_of_append(head, table, label, expected, area, RECEIPT_SIZE);
-    if refused.answer.number != refusals::ACCEPTED {
-        return refused;
+    let found = refusal_of_append(head, table, label, expected, area, RECEIPT_SIZE);
+    if found.told.answer.number != refusals::ACCEPTED {
+        return found;
     }
-    let _row = enter(head, table, label, entry, area);
-    acceptance(RECEIPT_SIZE, head)
+    let place = found.place;
+    let _row = enter(head, table, place, label, entry, area);
+    let told = acceptance(RECEIPT_SIZE, head);
+    Moved { told, place }
 }

@@ -3,6 +3,7 @@
 mod appending;
 mod table;
 
+pub use appending::Moved;
 pub use appending::append;
 pub use appending::enter;
 pub use appending::refusal_of_append;

@@ -8,11 +8,15 @@ use native.Mathlib.Omega.{arith}
 use borrow.Author.Tests.{eqb-true, eqb-false, eq-eqb, ne-eqb}
 use lib.ListN.{take, drop}
 use lib.Dec.{eqb}
-use Rattle.rows.specs.Sizes.{most-rows}
 use Rattle.rows.specs.Search.{held, find}
 use Rattle.rows.specs.Digests.{appended}
 use Rattle.rows.specs.declared.Found.the-variants.{At}
-use Rattle.rows.proofs.Searches.{held-most, first-is}
+use Rattle.rows.proofs.Searches.{first-is}
+use Rattle.roll.specs.Blocks.{places, blocks}
+use Rattle.roll.specs.Roll.{said-count, roll-layout}
+use Rattle.roll.specs.Places.{Spread}
+use Rattle.roll.proofs.Rolls.{cut-table}
+use Rattle.roll.proofs.Spreads.{all-held, has-place}
 use Rattle.statement.specs.Kinds.{digest-bytes}
 use Rattle.rules.specs.Derivation.{grown}
 
@@ -29,7 +33,10 @@ difference before n after h = go (eqb (before + n) after) refl
     go true e = let s : before + n ≡ after = eqb-true (before + n) after e in eq-eqb (after - before) n (omega arith)
     go false e = let s : (before + n ≡ after → ⊥) = eqb-false (before + n) after e in ne-eqb (after - before) n (λ d. s (omega arith))
 
--- a row that is found is within the table
-pub found-within : (count : ℕ) (rows label : List ℕ) (i : ℕ) → find count rows label ≡ At i → i < most-rows
-unfolding find
-found-within count rows label i e = omega (arith, held-most count rows, first-is rows label (held count rows) i e .0)
+-- a row that is found in a roll has a place in its blocks
+pub found-place :
+    (s : List ℕ) → Spread s → (label : List ℕ) (i : ℕ) → find (roll-layout .cut s .count) (roll-layout .cut s .rows) label ≡ At i
+    → i < places * blocks (said-count s)
+unfolding find roll-layout
+found-place s h label i e =
+    has-place s h i (omega (arith, all-held s h, first-is (cut-table s) label (held (said-count s) (cut-table s)) i e .0))

@@ -3,6 +3,6 @@ mod growth;
 mod old;
 
 pub use growth::grown;
-pub use old::has_label_of;
+pub use old::has_row;
 pub use old::no_more;
 pub use old::row_derived;

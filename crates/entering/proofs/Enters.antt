@@ -1,22 +1,20 @@
--- Laws of Initialise: what its racks and its roll give once they hold, its statement, and what it may count on where nothing refuses it. Assumes nothing.
+-- Laws of Initialise: what its racks give once they hold, its statement, and what it may count on where nothing refuses it. Assumes nothing.
 use mathlib.Core.Path.{_≡_, refl, sym, ap, _∙_}
 use mathlib.Core.Bool.{Bool, true, false, not, cond, _&&_}
 use mathlib.Core.List.{List, _++_}
 use Prim.Native.Nat.{ℕ, _≤_}
 use borrow.Author.Tests.{eqb-false, not-false}
 use lib.ListN.{length, take}
-use lib.Dec.{eqb}
 use Rattle.refusals.specs.{accepted, not-blank, rack-broken, rack-of-two, key-not-in-rack, roll-or-rack-alone, roll-broken}
 use Rattle.refusals.specs.Order.{first}
 use Rattle.refusals.proofs.Orders.{numbered, stops, goes-on, passes}
 use Rattle.octets.specs.Strings.{all-zero}
-use Rattle.octets.specs.Layouts.{holds, read}
-use Rattle.octets.proofs.RoundTrips.{holds-fits}
+use Rattle.octets.specs.Layouts.{holds}
 use Rattle.rack.specs.Racks.{most, rack-bytes, rack-layout, rack-digest, is-of-two}
 use Rattle.rack.proofs.RackTrips.{rack-whole}
 use Rattle.rows.specs.Sizes.{table-bytes}
 use Rattle.rows.proofs.Tables.{fit-length}
-use Rattle.roll.specs.Roll.{roll-layout, outcome, reading-roll}
+use Rattle.roll.specs.Roll.{roll-layout}
 use Rattle.statement.specs.Kinds.{handover-size}
 use Rattle.statement.specs.Contents.{handover-fits, fits-as, statement-fits}
 use Rattle.rules.specs.declared.Head.{Head}
@@ -29,25 +27,6 @@ use Rattle.entering.specs.Parts.{own-tests, old-tests, spoken, Takeable}
 -- of a rack the whole is digested
 pub digested : (s : List ℕ) → holds rack-layout s ≡ true → rack-digest (take (rack-bytes most) s) ≡ rack-digest s
 digested s h = ap rack-digest (rack-whole s h)
-
-module _ (s area : List ℕ) where
-  -- the answer of reading tells whether a string is a roll
-  pub answer-tells : eqb (reading-roll s area .answer) accepted ≡ holds roll-layout s
-  unfolding reading-roll read outcome
-  answer-tells = go (holds roll-layout s) refl
-    where
-      go : (b : Bool) → holds roll-layout s ≡ b → eqb (reading-roll s area .answer) accepted ≡ b
-      go true h = rw h
-      go false h = rw h
-
-  module _ (h : holds roll-layout s ≡ true) where
-    pub roll-read : reading-roll s area ≡ record { answer = accepted; count = roll-layout .cut s .count; rows = roll-layout .cut s .rows }
-    unfolding reading-roll read outcome
-    roll-read = rw h
-
-pub roll-long : (s : List ℕ) → holds roll-layout s ≡ true → length (roll-layout .cut s .rows) ≡ table-bytes
-unfolding roll-layout
-roll-long s h = fit-length (roll-layout .cut s .count) (roll-layout .cut s .rows) (holds-fits roll-layout s h)
 
 -- a roll and a previous rack of which neither is alone
 module _ (roll previous : List ℕ) (e : cond (absent roll) (not (absent previous)) (absent previous) ≡ false) where

@@ -7,8 +7,7 @@ use rack::is_rack;
 use rack::read_rack;
 use record::BLANK;
 use record::unready;
-use roll::read_roll;
-use rows::TABLE;
+use roll::is_roll;
 use rules::Head;
 use statement::HANDOVER_SIZE;
 ghost use mathlib.Core.Path.{_≡_};
@@ -16,7 +15,6 @@ ghost use mathlib.Core.Bool.{true, not, cond};
 ghost use Rattle.refusals.specs.Order.{first};
 ghost use Rattle.octets.specs.Layouts.{holds};
 ghost use Rattle.rack.specs.Racks.{rack-layout};
-ghost use Rattle.roll.specs.Roll.{roll-layout};
 ghost use Rattle.rules.specs.Initialise.{absent, is-in-rack, initialise-refusal};
 ghost use Rattle.entering.specs.Parts.{own-tests, old-tests};
 
@@ -28,15 +26,6 @@ fn is_in_rack(key: [u8; 32], rack: &[u8]) -> bool
     let mut keys = [[0u8; KEY_BYTES]; MOST];
     let counted = read_rack(rack, &mut keys);
     is_member(keys, counted.count as usize, key)
-}
-
-// Whether a string is a roll.
-fn is_roll(s: &[u8]) -> bool
-    ensures { λ r. ⌜ r ≡ holds roll-layout (now (s .entry)) ⌝ }
-{
-    let mut rows = [0u8; TABLE];
-    let counted = read_roll(s, &mut rows);
-    counted.answer == refusals::ACCEPTED
 }
 
 // The first refusal of the own rack, or 0.

@@ -3,12 +3,10 @@ use crate::asked::refusal_of_initialise;
 use crate::heads::founded;
 use crate::heads::preparing;
 use crate::heads::spoken;
-use octets::copy_at;
 use record::acceptance;
 use record::give;
 use record::refusal;
-use roll::read_roll;
-use rows::TABLE;
+use roll::take_rows;
 use rules::Head;
 use rules::Told;
 use statement::HANDOVER_SIZE;
@@ -43,10 +41,8 @@ fn take_over(
     ensures { λ r. ⌜ outcome r (now (table .exit)) (now (area .exit))
         ≡ taking-over (record { head = head; table = now (table .entry); area = now (area .entry) }) identity (now (roll .entry)) (now (previous .entry)) (now (own .entry)) ⌝ }
 {
-    let mut rows = [0u8; TABLE];
-    let counted = read_roll(roll, &mut rows);
-    copy_at(table, 0, &rows);
-    let next = preparing(head, identity, counted.count, previous, own);
+    let count = take_rows(roll, table);
+    let next = preparing(head, identity, count, previous, own);
     enter(next, table, area)
 }
 

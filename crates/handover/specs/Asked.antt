@@ -21,7 +21,7 @@ use Rattle.rules.specs.declared.Head.{Head}
 use Rattle.rules.specs.Outcomes.{Lent}
 use Rattle.rules.specs.Rows.{is-absent}
 use Rattle.rules.specs.Bundle.{longest-bundle, old-count, old-roll, new-count, list-at, list-of, added, digests, bundle-fits}
-use Rattle.rules.specs.Derivation.{row-in, row-derived, roll-of}
+use Rattle.rules.specs.Derivation.{row-in, row-derived, roll-of, roll-derived}
 use Rattle.rules.specs.Activate.{rack-size, racks-differ, bundle-tests, handover-tests}
 use Rattle.rules.specs.Check.{old-list, entries-of}
 
@@ -69,6 +69,10 @@ pub record Shown (head : Head) (table previous own s : List ℕ) : Type 0 where
 -- row r of ours is derived from an old roll by what old entry i lists
 abbrev pub led : Roll → Roll → List ℕ → ℕ → ℕ → Bool
 led ours old s i r = row-derived ours old r (digests s (list-of (ours .count) i r)) (added s (list-of (ours .count) i r))
+
+-- where the lists of old entry i end, or 0 where ours is not derived from its roll
+unfoldable pub led-to : Roll → List ℕ → ℕ → ℕ
+led-to ours s i = cond (roll-derived ours s i) (list-at s (list-of (ours .count) i (ours .count))) 0
 
 -- an old roll has row r of ours, and old entry i lists no digests for it
 abbrev pub keeps : Roll → Roll → List ℕ → ℕ → ℕ → Bool

@@ -6,9 +6,8 @@ use bundle::old_roll;
 use record::acceptance;
 use record::give;
 use record::refusal;
-use roll::read_roll;
+use roll::digest_in;
 use rows::DIGEST;
-use rows::TABLE;
 use rows::roll_digest;
 use rules::Head;
 use rules::Told;
@@ -72,9 +71,7 @@ fn old_digest(s: &[u8], i: usize) -> [u8; DIGEST]
     requires { ⌜ (old-at (now s) (i + 1) ≤ length (now s)) × (length (now s) ≤ longest-bundle) × (roll-held (now s) i ≡ true) ⌝ }
     ensures { λ r. ⌜ r ≡ old-digest (now (s .entry)) i ⌝ }
 {
-    let mut old = [0u8; TABLE];
-    let read = read_roll(old_roll(s, i), &mut old);
-    roll_digest(read.count as usize, &old)
+    digest_in(old_roll(s, i))
 }
 
 // The statement that the marks of an entry speak of: the old keeper's last words, or this keeper's first.

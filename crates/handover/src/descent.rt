@@ -1,59 +1,55 @@
-// Whether a bundle's old rolls and digests lead to this keeper's roll.
+// Whether a bundle's old rolls and digests lead to this keeper's roll: one walk over its lists.
 use crate::keeping::all_kept;
-use crate::keeping::note_kept;
+use crate::keeping::is_kept;
 use bundle::LIST_HEAD;
-use bundle::list_at;
+use bundle::first_list;
 use bundle::next_list;
 use bundle::old_count;
 use bundle::old_roll;
 use derivation::no_more;
 use derivation::row_derived;
-use roll::read_roll;
 use rows::MOST;
-use rows::TABLE;
 ghost use mathlib.Core.Path.{_≡_};
 ghost use mathlib.Core.Bool.{true};
-ghost use Prim.Native.Nat.{_<_, _≤_};
+ghost use Prim.Native.Nat.{_*_, _<_, _≤_};
 ghost use lib.ListN.{length};
 ghost use Rattle.rows.specs.Sizes.{table-bytes};
 ghost use Rattle.rows.specs.Table.{each};
-ghost use Rattle.rules.specs.Bundle.{old-count};
+ghost use Rattle.rules.specs.Bundle.{old-count, list-at};
 ghost use Rattle.rules.specs.Derivation as rule;
-ghost use Rattle.handover.specs.Asked.{Laid, Noted, roll-held, led};
+ghost use Rattle.handover.specs.Asked.{Laid, Noted, roll-held, led-to};
 
-// Whether the digests of old entry i lead from each row of its roll to ours.
-fn rows_derived(table: &[u8], rows: usize, old: &[u8], size: usize, s: &[u8], i: usize) -> bool
-    requires { ⌜ Laid rows (now s) × (length (now table) ≡ table-bytes) × (length (now old) ≡ table-bytes) × (i < old-count (now s)) ⌝ }
-    ensures { λ b. ⌜ b ≡ each (led (record { count = rows; rows = now (table .entry) }) (record { count = size; rows = now (old .entry) }) (now (s .entry)) i) rows ⌝ }
+// Where the lists of old entry i end, which begin at a place, or 0 where ours is not derived from its roll; flags the rows that the entry keeps.
+fn roll_derived(
+    table: &[u8],
+    rows: usize,
+    s: &[u8],
+    i: usize,
+    at: usize,
+    kept: &mut [bool],
+) -> usize
+    requires { ⌜ Laid rows (now s) × (length (now table) ≡ table-bytes) × (i < old-count (now s))
+        × (roll-held (now s) i ≡ true) × (at ≡ list-at (now s) (rows * i)) × (rows ≤ length (now kept)) ⌝ }
+    ensures { λ e. ⌜ (e ≡ led-to (record { count = rows; rows = now (table .entry) }) (now (s .entry)) i)
+        × (rule.roll-derived (record { count = rows; rows = now (table .entry) }) (now (s .entry)) i ≡ true
+        → Noted (record { count = rows; rows = now (table .entry) }) (rule.roll-of (now (s .entry)) i) (now (s .entry)) i (now (kept .entry)) (now (kept .exit))) ⌝ }
 {
-    let mut at = list_at(s, rows * i);
+    let roll = old_roll(s, i);
+    if !no_more(table, rows, roll) {
+        return 0;
+    }
+    let mut place = at;
     let mut r = 0;
     while r < rows {
-        let end = next_list(s, at);
-        if !row_derived(table, r, old, size, &s[at + LIST_HEAD..end]) {
-            return false;
+        let end = next_list(s, place);
+        if !row_derived(table, r, roll, &s[place + LIST_HEAD..end]) {
+            return 0;
         }
-        at = end;
+        kept[r] = is_kept(kept[r], table, r, roll, s, place);
+        place = end;
         r += 1;
     }
-    true
-}
-
-// Whether ours is derived from the roll of old entry i, and which rows that entry keeps.
-fn roll_derived(table: &[u8], rows: usize, s: &[u8], i: usize, kept: &mut [bool]) -> bool
-    requires { ⌜ Laid rows (now s) × (length (now table) ≡ table-bytes) × (i < old-count (now s))
-        × (roll-held (now s) i ≡ true) × (rows ≤ length (now kept)) ⌝ }
-    ensures { λ b. ⌜ (b ≡ rule.roll-derived (record { count = rows; rows = now (table .entry) }) (now (s .entry)) i)
-        × Noted (record { count = rows; rows = now (table .entry) }) (rule.roll-of (now (s .entry)) i) (now (s .entry)) i (now (kept .entry)) (now (kept .exit)) ⌝ }
-{
-    let mut old = [0u8; TABLE];
-    let read = read_roll(old_roll(s, i), &mut old);
-    let size = read.count as usize;
-    note_kept(table, rows, &old, size, s, i, kept);
-    if no_more(table, rows, &old, size) {
-        return rows_derived(table, rows, &old, size, s, i);
-    }
-    false
+    place
 }
 
 // Whether ours is derived from each old roll, and each row is kept by some.
@@ -63,9 +59,11 @@ pub fn derived(table: &[u8], rows: usize, s: &[u8]) -> bool
 {
     let mut kept = [false; MOST];
     let count = old_count(s);
+    let mut at = first_list(s);
     let mut i = 0;
     while i < count {
-        if !roll_derived(table, rows, s, i, &mut kept) {
+        at = roll_derived(table, rows, s, i, at, &mut kept);
+        if at == 0 {
             return false;
         }
         i += 1;

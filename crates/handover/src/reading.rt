@@ -1,25 +1,13 @@
-// The rolls of old entries, read.
+// The rolls of old entries, tested.
 use bundle::old_count;
 use bundle::old_roll;
-use roll::read_roll;
-use rows::TABLE;
+use roll::is_roll;
 ghost use mathlib.Core.Path.{_≡_};
 ghost use Prim.Native.Nat.{_<_, _≤_};
 ghost use lib.ListN.{length};
-ghost use Rattle.octets.specs.Layouts.{holds};
 ghost use Rattle.rows.specs.Table.{each};
-ghost use Rattle.roll.specs.Roll.{roll-layout};
 ghost use Rattle.rules.specs.Bundle.{longest-bundle, old-count, new-at};
 ghost use Rattle.handover.specs.Asked.{roll-held};
-
-// Whether a string is a roll.
-fn is_roll(s: &[u8]) -> bool
-    ensures { λ r. ⌜ r ≡ holds roll-layout (now (s .entry)) ⌝ }
-{
-    let mut table = [0u8; TABLE];
-    let read = read_roll(s, &mut table);
-    read.answer == refusals::ACCEPTED
-}
 
 // Whether each old entry has a roll.
 pub fn rolls_hold(s: &[u8]) -> bool

@@ -1,4 +1,6 @@
 -- Laws of the calls on a record that the caller lends.
 pub mod OtherTables
+pub mod MovedRows
 pub mod ThinCalls
+pub mod ReadCalls
 pub mod Outcomes

@@ -33,26 +33,33 @@ use Rattle.keeper.proofs.thin.mahqurith_append_and_read as append-and-r
 abbrev lent : (κs : Lfts 3) → Args new.signature κs → Answer → Held
 lent κs a answer = held answer (now (a .0)) (now (a .1 .0)) (now (a .1 .1 .1 .0))
 
-abbrev seen : (κs : Lfts 3) → Answer → AtExit new.ended κs → Held
-seen κs r e = held r (now (e .0)) (now (e .1 .0)) (now (e .1 .1 .1 .0))
+abbrev seen : (κs : Lfts 3) → Args new.signature κs → Answer → AtExit new.ended κs → Held
+seen κs a r e = held r (now (e .0)) (now (e .1 .0)) (now (e .1 .1 .1 .0))
 
--- of the calls on ledgers, whichever their rule
+-- of Read, which leaves the head and the rows that it is lent
+abbrev lent-to-read : (κs : Lfts 3) → Args read.signature κs → Answer → Held
+lent-to-read κs a answer = held answer (now (a .0)) (now (a .1 .0)) (now (a .1 .1 .1 .0))
+
+abbrev seen-of-read : (κs : Lfts 3) → Args read.signature κs → Answer → AtExit read.ended κs → Held
+seen-of-read κs a r e = held r (now (a .0)) (now (a .1 .0)) (now (e .1 .1 .1 .0))
+
+-- of the calls that change the record, whichever their rule
 module _ {M : Type 1} (𝓤 : URA M) (rule : Lent → Asked → Outcome) where
   thin-one : One 𝓤 new.ended (thin-clauses 𝓤 rule) seen
   thin-one κs a g r r′ e e′ =
-      one-outcome 𝓤 (λ k. rule k (a .1 .1 .0)) (now (a .0)) (now (a .1 .0)) (now (a .1 .1 .1 .0)) (seen κs r e) (seen κs r′ e′)
+      one-outcome 𝓤 (λ k. rule k (a .1 .1 .0)) (now (a .0)) (now (a .1 .0)) (now (a .1 .1 .1 .0)) (seen κs a r e) (seen κs a r′ e′)
 
   thin-spared : ((k : Lent) (asked : Asked) → Spares k (rule k asked)) → Spared 𝓤 new.ended (thin-clauses 𝓤 rule) lent seen
   thin-spared spares κs a g r e ts =
-      refusal-spares 𝓤 (λ k. rule k (a .1 .1 .0)) (now (a .0)) (now (a .1 .0)) (now (a .1 .1 .1 .0)) (spares _ (a .1 .1 .0)) ts (seen κs r e)
+      refusal-spares 𝓤 (λ k. rule k (a .1 .1 .0)) (now (a .0)) (now (a .1 .0)) (now (a .1 .1 .1 .0)) (spares _ (a .1 .1 .0)) ts (seen κs a r e)
 
 module _ {M : Type 1} (𝓤 : URA M) (H : Heap 𝓤) (A : Atoms 𝓤) (mem : Memory → SProp 𝓤) (run : Routine → Fun 𝓤) where
-  pub wake-one : One 𝓤 wake.ended (wake.clauses 𝓤 H A mem run) (λ κs r e. held r (now (e .0)) (now (e .1 .0)) [])
+  pub wake-one : One 𝓤 wake.ended (wake.clauses 𝓤 H A mem run) (λ κs a r e. held r (now (e .0)) (now (e .1 .0)) [])
   wake-one κs a g r r′ e e′ = one-outcome 𝓤 (λ k. waking k (a .1 .1 .0 .key)) (now (a .0)) (now (a .1 .0)) [] _ _
 
   pub wake-spared :
       Spared 𝓤 wake.ended (wake.clauses 𝓤 H A mem run) (λ κs a answer. held answer (now (a .0)) (now (a .1 .0)) [])
-      (λ κs r e. held r (now (e .0)) (now (e .1 .0)) [])
+      (λ κs a r e. held r (now (e .0)) (now (e .1 .0)) [])
   wake-spared κs a g r e ts =
       refusal-spares 𝓤 (λ k. waking k (a .1 .1 .0 .key)) (now (a .0)) (now (a .1 .0)) [] (waking-spares _ (a .1 .1 .0 .key)) ts _
 
@@ -69,11 +76,13 @@ module _ {M : Type 1} (𝓤 : URA M) (H : Heap 𝓤) (A : Atoms 𝓤) (mem : Mem
   append-spared =
       thin-spared 𝓤 (λ k a. appending k (a .label) (a .entry) (a .expected)) (λ k a. appending-spares k (a .label) (a .entry) (a .expected))
 
-  pub read-one : One 𝓤 read.ended (read.clauses 𝓤 H A mem run) seen
-  read-one = thin-one 𝓤 (λ k a. reading k (a .label) (a .nonce))
+  pub read-one : One 𝓤 read.ended (read.clauses 𝓤 H A mem run) seen-of-read
+  read-one κs a g r r′ e e′ = one-outcome 𝓤 (λ k. reading k (a .1 .1 .0 .label) (a .1 .1 .0 .nonce)) (now (a .0)) (now (a .1 .0)) (now (a .1 .1 .1 .0)) _ _
 
-  pub read-spared : Spared 𝓤 read.ended (read.clauses 𝓤 H A mem run) lent seen
-  read-spared = thin-spared 𝓤 (λ k a. reading k (a .label) (a .nonce)) (λ k a. reading-spares k (a .label) (a .nonce))
+  pub read-spared : Spared 𝓤 read.ended (read.clauses 𝓤 H A mem run) lent-to-read seen-of-read
+  read-spared κs a g r e ts =
+      refusal-spares 𝓤 (λ k. reading k (a .1 .1 .0 .label) (a .1 .1 .0 .nonce)) (now (a .0)) (now (a .1 .0)) (now (a .1 .1 .1 .0))
+      (reading-spares _ (a .1 .1 .0 .label) (a .1 .1 .0 .nonce)) ts _
 
   pub append-and-read-one : One 𝓤 append-and-read.ended (append-and-read.clauses 𝓤 H A mem run) seen
   append-and-read-one = thin-one 𝓤 (λ k a. appending-and-reading k (a .label) (a .entry) (a .expected) (a .nonce))

@@ -1,67 +1,73 @@
-// The calls on ledgers, on a head and rows by value. All have one shape.
+// The calls on ledgers, over the flat bytes of the table. Those that change the record have one shape.
+use appending::Moved;
 use rows::MOST;
+use rules::Answer;
 use rules::Head;
 use table::Asked;
-use table::Kept;
-use table::Row;
-use table::flat;
-use table::keep;
+use table::Left;
+use table::leave;
 ghost use mathlib.Core.Path.{_≡_};
-ghost use Rattle.rules.specs.Outcomes.{Lent};
+ghost use mathlib.Core.Bool.{false};
+ghost use Prim.Native.Nat.{_+_, _<_};
+ghost use Rattle.rows.specs.Sizes.{most-rows};
+ghost use Rattle.rules.specs.Outcomes.{Lent, Outcome};
 ghost use Rattle.rules.specs.New.{making};
 ghost use Rattle.rules.specs.Append.{appending};
 ghost use Rattle.rules.specs.Read.{reading, appending-and-reading};
-ghost use Rattle.table.specs.Flat.{flattened};
-ghost use Rattle.table.specs.Held.{Held, as-rows};
+ghost use Rattle.table.specs.Held.{Leaves, left-by};
 
-// New.
-pub fn new_kept(head: Head, rows: [Row; MOST], asked: Asked, area: &mut [u8]) -> Kept
-    ensures { λ r. ⌜ record { answer = r .answer; head = r .head; rows = r .rows; area = now (area .exit) } ≡ as-rows (making (record { head = head; table = flattened rows; area = now (area .entry) }) (asked .label)) ⌝ }
+// New: a row more moves the rows behind it.
+pub fn new_left(head: Head, table: &mut [u8], asked: Asked, area: &mut [u8]) -> Left
+    ensures { λ r. ⌜ Leaves r (record { head = head; table = now (table .entry); area = now (area .entry) }) (now (table .exit)) (now (area .exit))
+        (making (record { head = head; table = now (table .entry); area = now (area .entry) }) (asked .label)) ⌝ }
 {
-    let mut table = flat(rows);
     let label = asked.label;
-    let told = making::new(head, &mut table, label, area);
-    keep(told, &table)
+    let told = making::new(head, table, label, area);
+    leave(told, true, 0, MOST)
+}
+
+// One row has moved on, or none where the call is refused; the head stays.
+fn leave_moved(moved: Moved) -> Left
+    requires { ⌜ moved .place < most-rows ⌝ }
+    ensures { λ r. ⌜ r ≡ left-by (moved .told) false (moved .place) (moved .place + 1) ⌝ }
+{
+    let told = moved.told;
+    let from = moved.place;
+    let to = from + 1;
+    leave(told, false, from, to)
 }
 
 // Append.
-pub fn append_kept(head: Head, rows: [Row; MOST], asked: Asked, area: &mut [u8]) -> Kept
-    ensures { λ r. ⌜ record { answer = r .answer; head = r .head; rows = r .rows; area = now (area .exit) } ≡ as-rows (appending (record { head = head; table = flattened rows; area = now (area .entry) }) (asked .label) (asked .entry) (asked .expected)) ⌝ }
+pub fn append_left(head: Head, table: &mut [u8], asked: Asked, area: &mut [u8]) -> Left
+    ensures { λ r. ⌜ Leaves r (record { head = head; table = now (table .entry); area = now (area .entry) }) (now (table .exit)) (now (area .exit))
+        (appending (record { head = head; table = now (table .entry); area = now (area .entry) }) (asked .label) (asked .entry) (asked .expected)) ⌝ }
 {
-    let mut table = flat(rows);
     let label = asked.label;
     let entry = asked.entry;
-    let told = appending::append(head, &mut table, label, entry, asked.expected, area);
-    keep(told, &table)
-}
-
-// Read.
-pub fn read_kept(head: Head, rows: [Row; MOST], asked: Asked, area: &mut [u8]) -> Kept
-    ensures { λ r. ⌜ record { answer = r .answer; head = r .head; rows = r .rows; area = now (area .exit) } ≡ as-rows (reading (record { head = head; table = flattened rows; area = now (area .entry) }) (asked .label) (asked .nonce)) ⌝ }
-{
-    let table = flat(rows);
-    let label = asked.label;
-    let nonce = asked.nonce;
-    let told = reading::read(head, &table, label, nonce, area);
-    keep(told, &table)
+    let moved = appending::append(head, table, label, entry, asked.expected, area);
+    leave_moved(moved)
 }
 
 // Append and read.
-pub fn append_and_read_kept(head: Head, rows: [Row; MOST], asked: Asked, area: &mut [u8]) -> Kept
-    ensures { λ r. ⌜ record { answer = r .answer; head = r .head; rows = r .rows; area = now (area .exit) } ≡ as-rows (appending-and-reading (record { head = head; table = flattened rows; area = now (area .entry) }) (asked .label) (asked .entry) (asked .expected) (asked .nonce)) ⌝ }
+pub fn append_and_read_left(head: Head, table: &mut [u8], asked: Asked, area: &mut [u8]) -> Left
+    ensures { λ r. ⌜ Leaves r (record { head = head; table = now (table .entry); area = now (area .entry) }) (now (table .exit)) (now (area .exit))
+        (appending-and-reading (record { head = head; table = now (table .entry); area = now (area .entry) })
+        (asked .label) (asked .entry) (asked .expected) (asked .nonce)) ⌝ }
 {
-    let mut table = flat(rows);
     let label = asked.label;
     let entry = asked.entry;
     let nonce = asked.nonce;
-    let told = reading::append_and_read(
-        head,
-        &mut table,
-        label,
-        entry,
-        asked.expected,
-        nonce,
-        area,
-    );
-    keep(told, &table)
+    let moved = reading::append_and_read(head, table, label, entry, asked.expected, nonce, area);
+    leave_moved(moved)
+}
+
+// Read, which leaves the record.
+pub fn read_left(head: Head, table: &[u8], asked: Asked, area: &mut [u8]) -> Answer
+    ensures { λ r. ⌜ record { answer = r; left = record { head = head; table = now (table .entry); area = now (area .exit) } }
+        ≡ reading (record { head = head; table = now (table .entry); area = now (area .entry) }) (asked .label) (asked .nonce) ⌝ }
+{
+    let label = asked.label;
+    let nonce = asked.nonce;
+    let told = reading::read(head, table, label, nonce, area);
+    told.answer
 }

@@ -1,8 +1,6 @@
 // The last words of a keeper: its finalise statement, and the blocks of its roll behind it.
-use octets::copy_at;
 use record::give;
 use roll::write_roll;
-use rows::TABLE;
 use rows::roll_digest;
 use rules::Head;
 use statement::HANDOVER_SIZE;
@@ -38,9 +36,7 @@ fn put_roll(count: u8, table: &[u8], area: &mut [u8]) -> usize
     requires { ⌜ (rows-fit count (now table) ≡ true) × (block-bytes * most-blocks ≤ length (now area)) ⌝ }
     ensures { λ r. ⌜ (now (area .exit) ≡ put (now (area .entry)) 0 (first-blocks count (now (table .entry)) (blocks count))) × (r ≡ block-bytes * blocks count) ⌝ }
 {
-    let mut rows = [0u8; TABLE];
-    copy_at(&mut rows, 0, table);
-    let written = write_roll(count, &rows, area);
+    let written = write_roll(count, table, area);
     written.count
 }
 

@@ -4,6 +4,6 @@ mod receipts;
 mod search;
 
 pub use receipts::receipt;
+pub use search::Sought;
 pub use search::is_known;
-pub use search::place_of;
-pub use search::unfound;
+pub use search::seek;

@@ -8,8 +8,8 @@ ghost use mathlib.Core.Bool.{not};
 ghost use Rattle.refusals.specs.Order.{first};
 ghost use Rattle.rows.specs.Search.{find};
 ghost use Rattle.rules.specs.Outcomes.{Lent};
-ghost use Rattle.rules.specs.Rows.{is-absent, row-number};
-ghost use Rattle.ledgers.specs.Tests.{found};
+ghost use Rattle.rules.specs.Rows.{is-absent};
+ghost use Rattle.ledgers.specs.Tests.{found, place-if};
 
 // Whether the keeper has a ledger of this label.
 pub fn is_known(head: Head, table: &[u8], label: [u8; 16]) -> bool
@@ -21,26 +21,31 @@ pub fn is_known(head: Head, table: &[u8], label: [u8; 16]) -> bool
     false
 }
 
-// The number of its row, or 0.
-pub fn place_of(head: Head, table: &[u8], label: [u8; 16]) -> usize
-    ensures { λ r. ⌜ r ≡ row-number (find (head .count) (now (table .entry)) label) ⌝ }
-{
-    let Found::At(i) = rows::find(table, head.count as usize, label) else {
-        return 0;
-    };
-    i
+// What a call on a ledger that has to be there asks first: the first refusal and 0, or 0 and the number of the ledger's row.
+pub struct Sought {
+    pub number: u32,
+    pub place: usize,
 }
 
-// The first refusal, or 0.
-pub fn unfound(head: Head, table: &[u8], label: [u8; 16], area: &[u8], size: usize) -> u32
-    ensures { λ r. ⌜ r ≡ first (found size (record { head = head; table = now (table .entry); area = now (area .entry) }) label) ⌝ }
+pub fn seek(head: Head, table: &[u8], label: [u8; 16], area: &[u8], size: usize) -> Sought
+    ensures number { λ r. ⌜ r .number ≡ first (found size (record { head = head; table = now (table .entry); area = now (area .entry) }) label) ⌝ }
+    ensures place { λ r. ⌜ r .place ≡ place-if (r .number) (find (head .count) (now (table .entry)) label) ⌝ }
 {
     let n = unready(head, table, area, size, ACTIVE, refusals::NOT_ACTIVE);
     if n != refusals::ACCEPTED {
-        return n;
+        return Sought {
+            number: n,
+            place: 0,
+        };
     }
-    if is_known(head, table, label) {
-        return refusals::ACCEPTED;
+    let Found::At(i) = rows::find(table, head.count as usize, label) else {
+        return Sought {
+            number: refusals::NO_SUCH_LEDGER,
+            place: 0,
+        };
+    };
+    Sought {
+        number: refusals::ACCEPTED,
+        place: i,
     }
-    refusals::NO_SUCH_LEDGER
 }

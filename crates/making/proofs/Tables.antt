@@ -1,16 +1,15 @@
--- Laws of the table: a row put in by three copies, and one more row counted. Assumes nothing.
+-- Laws of the table: a row put in, row by row, and one more row counted. Assumes nothing.
 use mathlib.Core.Path.{_≡_, sym, ap, ap₂, _∙_}
 use mathlib.Core.Bool.{Bool, true, false, cond}
 use mathlib.Core.List.{List, _++_, append-nil, append-assoc}
 use Prim.Native.Nat.{ℕ, _+_, _-_, _*_, _≤_, _<_}
 use native.Mathlib.Numerals.{add-one}
 use native.Mathlib.Omega.{arith}
-use lib.ListN.{length, take, drop, replicate, length-append, length-take, length-drop, length-replicate, drop-of-length-le}
-use lib.Seq.{take-append-add}
+use lib.ListN.{length, take, drop, length-append, length-drop, take-append-drop, drop-of-length-le}
+use lib.Seq.{length-take-le, take-add, take-at, drop-at, drop-append-add, drop-drop}
 use Rattle.octets.specs.Strings.{put, before}
-use Rattle.octets.proofs.Puts.{put-put}
 use Rattle.rows.specs.Row.{label-of}
-use Rattle.rules.specs.Table.{smaller, new-row, widened}
+use Rattle.rules.specs.Table.{smaller}
 
 pub smaller-more :
     (n : ℕ) (rows label : List ℕ) → smaller (n + 1) rows label ≡ smaller n rows label + cond (before (label-of rows n) label) 1 0
@@ -21,40 +20,88 @@ pub at-most-one : (b : Bool) → cond b 1 0 ≤ 1
 at-most-one true = omega arith
 at-most-one false = omega arith
 
--- label, zeros and the later rows, copied one behind the other, are the table with the row in it
-module _ (t label : List ℕ) (i : ℕ) (within : i < 63) (whole : length t ≡ 3528) (sixteen : length label ≡ 16) where
-  later : List ℕ
-  later = take (3472 - 56 * i) (drop (56 * i) t)
+-- the rows with one put in before row i; the table has room for all but the last
+module _ (t row : List ℕ) (i : ℕ) where
+  front : List ℕ
+  front = take (56 * i) t ++ row
 
-  later-length : length later ≡ 3472 - 56 * i
-  unfolding later
-  later-length = simp (length-take, length-drop) (omega arith)
+  opened : List ℕ
+  opened = front ++ drop (56 * i) t
 
-  row-length : length (new-row label) ≡ 56
-  row-length = simp (length-append, length-replicate) (omega arith)
+  -- the table once the rows before j are in their places, and the row that comes next
+  pub so-far : ℕ → List ℕ
+  so-far j = take (56 * j) opened ++ drop (56 * j) t
 
-  all-put : put t (56 * i) (new-row label ++ later) ≡ take (56 * i) t ++ (new-row label ++ later)
-  unfolding put
-  all-put =
-      let n : length (new-row label ++ later) ≡ 3528 - 56 * i = length-append (new-row label) later ∙ ap₂ (λ (x y : ℕ). x + y) row-length later-length ∙ omega arith in
-      let e : length t ≤ 56 * i + length (new-row label ++ later) = omega arith in
-      ap (λ (x : List ℕ). take (56 * i) t ++ (new-row label ++ later) ++ x) (drop-of-length-le t e)
-      ∙ append-nil (take (56 * i) t ++ (new-row label ++ later))
+  pub next-in : ℕ → List ℕ
+  next-in j = take 56 (drop (56 * j) opened)
 
-  all-taken : widened t i label ≡ take (56 * i) t ++ (new-row label ++ later)
-  unfolding widened later
-  all-taken =
-      let a : List ℕ = take (56 * i) t ++ new-row label in
-      let n : length a ≡ 56 * i + 56 = length-append (take (56 * i) t) (new-row label) ∙ ap₂ (λ (x y : ℕ). x + y) (length-take (56 * i) t ∙ omega arith) row-length in
-      let e : length t ≡ length a + (3472 - 56 * i) = omega arith in
-      ap (λ (k : ℕ). take k (a ++ drop (56 * i) t)) e ∙ take-append-add a (drop (56 * i) t) (3472 - 56 * i)
-      ∙ append-assoc (take (56 * i) t) (new-row label) later
+  module _ (within : i < 63) (whole : length t ≡ 3528) (long : length row ≡ 56) where
+    before-length : length (take (56 * i) t) ≡ 56 * i
+    before-length = length-take-le (56 * i) t (omega arith)
 
-  pub widened-by :
-      put (put (put t (56 * i) label) (56 * i + 16) (replicate 40 0)) (56 * i + 56) (take (3472 - 56 * i) (drop (56 * i) t)) ≡ widened t i label
-  unfolding later
-  widened-by =
-      ap (λ (x : List ℕ). put x (56 * i + 56) later)
-      (put-put t (56 * i) label (replicate 40 0) (56 * i + 16) (omega arith) (omega (arith, length-replicate {A = ℕ} 40 0)))
-      ∙ put-put t (56 * i) (new-row label) later (56 * i + 56) (omega (arith, row-length)) (omega (arith, row-length, later-length))
-      ∙ all-put ∙ sym all-taken
+    front-length : length front ≡ 56 * i + 56
+    unfolding front
+    front-length = length-append (take (56 * i) t) row ∙ ap₂ (λ (x y : ℕ). x + y) before-length long
+
+    opened-length : length opened ≡ 3584
+    unfolding opened
+    opened-length = length-append front (drop (56 * i) t) ∙ ap₂ (λ (x y : ℕ). x + y) front-length (length-drop (56 * i) t) ∙ omega arith
+
+    opened-at : opened ≡ take (56 * i) t ++ (row ++ drop (56 * i) t)
+    unfolding opened front
+    opened-at = append-assoc (take (56 * i) t) row (drop (56 * i) t)
+
+    done-length : (j : ℕ) → j ≤ 63 → length (take (56 * j) opened) ≡ 56 * j
+    done-length j h = length-take-le (56 * j) opened (omega (arith, opened-length))
+
+    pub so-far-length : (j : ℕ) → j ≤ 63 → length (so-far j) ≡ 3528
+    unfolding so-far
+    so-far-length j h =
+        length-append (take (56 * j) opened) (drop (56 * j) t) ∙ ap₂ (λ (x y : ℕ). x + y) (done-length j h) (length-drop (56 * j) t) ∙ omega arith
+
+    pub next-length : (j : ℕ) → j ≤ 63 → length (next-in j) ≡ 56
+    unfolding next-in
+    next-length j h = length-take-le 56 (drop (56 * j) opened) (omega (arith, length-drop (56 * j) opened, opened-length))
+
+    pub none-in : so-far i ≡ t
+    unfolding so-far
+    none-in =
+        ap (λ (x : List ℕ). take (56 * i) x ++ drop (56 * i) t) opened-at
+        ∙ ap (λ (x : List ℕ). x ++ drop (56 * i) t) (take-at (take (56 * i) t) (row ++ drop (56 * i) t) (56 * i) before-length)
+        ∙ take-append-drop (56 * i) t
+
+    pub all-in : so-far 63 ≡ take (length t) (take (56 * i) t ++ row ++ drop (56 * i) t)
+    unfolding so-far opened front
+    all-in =
+        ap (λ (x : List ℕ). take 3528 opened ++ x) (drop-of-length-le t {i = 3528} (omega arith)) ∙ append-nil (take 3528 opened)
+        ∙ ap (λ (n : ℕ). take n opened) (sym whole)
+
+    pub first-next : next-in i ≡ row
+    unfolding next-in
+    first-next =
+        ap (λ (x : List ℕ). take 56 (drop (56 * i) x)) opened-at
+        ∙ ap (take 56) (drop-at (take (56 * i) t) (row ++ drop (56 * i) t) (56 * i) before-length)
+        ∙ take-at row (drop (56 * i) t) 56 long
+
+    pub next-next : (j : ℕ) → i ≤ j → j < 63 → take 56 (drop (56 * j) (so-far j)) ≡ next-in (j + 1)
+    unfolding so-far next-in opened
+    next-next j h k =
+        let n : 56 * (j + 1) ≡ length front + (56 * j - 56 * i) = omega (arith, front-length) in
+        let m : 56 * i + (56 * j - 56 * i) ≡ 56 * j = omega arith in
+        ap (take 56) (drop-at (take (56 * j) opened) (drop (56 * j) t) (56 * j) (done-length j (omega arith)))
+        ∙ ap (λ (x : ℕ). take 56 (drop x t)) (sym m)
+        ∙ ap (take 56) (sym (drop-drop (56 * j - 56 * i) (56 * i) t))
+        ∙ ap (take 56) (sym (drop-append-add front (drop (56 * i) t) (56 * j - 56 * i)))
+        ∙ ap (λ (x : ℕ). take 56 (drop x opened)) (sym n)
+
+    pub one-in : (j : ℕ) → j < 63 → put (so-far j) (56 * j) (next-in j) ≡ so-far (j + 1)
+    unfolding put so-far next-in
+    one-in j k =
+        let done : List ℕ = take (56 * j) opened in
+        let l : length done ≡ 56 * j = done-length j (omega arith) in
+        let m : 56 * j + length (next-in j) ≡ length done + 56 = omega (arith, next-length j (omega arith), l) in
+        let n : 56 * j + 56 ≡ 56 * (j + 1) = omega arith in
+        ap₂ (λ (x y : List ℕ). x ++ next-in j ++ y)
+        (take-at done (drop (56 * j) t) (56 * j) l)
+        (ap (λ (x : ℕ). drop x (done ++ drop (56 * j) t)) m ∙ drop-append-add done (drop (56 * j) t) 56 ∙ drop-drop 56 (56 * j) t)
+        ∙ ap₂ (λ (x y : List ℕ). x ++ y) (sym (take-add (56 * j) 56 opened) ∙ ap (λ (x : ℕ). take x opened) n) (ap (λ (x : ℕ). drop x t) n)

@@ -2,10 +2,11 @@
 use mathlib.Core.Path.{_≡_, refl, sym, ap, ap₂, _∙_}
 use mathlib.Core.Bool.{Bool, true, false, cond, _&&_}
 use mathlib.Core.List.{List, [], _∷_}
-use Prim.Native.Nat.{ℕ, suc, _+_, _≤_, _<_}
+use Prim.Native.Nat.{ℕ, zero, suc, _+_, _≤_, _<_}
 use native.Mathlib.Decide.{decLt}
 use native.Mathlib.Omega.{arith}
-use borrow.Author.Tests.{lt-ltb, le-ltb}
+use borrow.Author.Tests.{lt-ltb, le-ltb, ne-eqb}
+use lib.Bits.{bitOr, or-add-and, and-le-r}
 use lib.ListN.{length, getD, drop, drop-of-length-le}
 use lib.Dec.{eqb, ltb}
 use Rattle.octets.specs.Strings.{all-zero, same, before}
@@ -14,6 +15,14 @@ use Rattle.octets.proofs.Parts.{drop-next}
 pub zero-step : (s : List ℕ) (i : ℕ) → i < length s → all-zero (drop i s) ≡ (eqb (getD s i 0) 0 && all-zero (drop (i + 1) s))
 unfolding all-zero
 zero-step s i h = ap all-zero (drop-next s i h)
+
+-- a number holds the bits of both exactly where neither has any
+pub neither : (a b : ℕ) → eqb (bitOr a b) 0 ≡ (eqb a 0 && eqb b 0)
+neither zero b = refl
+neither (suc a) b =
+    let sum = or-add-and (suc a) b in
+    let low = and-le-r (suc a) b in
+    ne-eqb (bitOr (suc a) b) 0 (omega arith) ∙ sym (ap (λ (p : Bool). p && eqb b 0) (ne-eqb (suc a) 0 (omega arith)))
 
 pub zero-end : (s : List ℕ) (i : ℕ) → length s ≤ i → all-zero (drop i s) ≡ true
 unfolding all-zero

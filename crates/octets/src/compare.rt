@@ -11,15 +11,13 @@ ghost use Rattle.octets.specs.Strings.{all-zero, same, before};
 pub fn is_zero(s: &[u8]) -> bool
     ensures { λ r. ⌜ r ≡ all-zero (now (s .entry)) ⌝ }
 {
-    let mut all = true;
+    let mut seen = 0u8;
     let mut i = 0;
     while i < s.len() {
-        if s[i] != 0 {
-            all = false;
-        }
+        seen = seen | s[i];
         i += 1;
     }
-    all
+    seen == 0
 }
 
 // Whether two strings are the same.

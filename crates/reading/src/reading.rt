@@ -1,9 +1,9 @@
 // Read, and Append and read.
+use appending::Moved;
 use appending::enter;
 use appending::refusal_of_append;
-use ledgers::place_of;
 use ledgers::receipt;
-use ledgers::unfound;
+use ledgers::seek;
 use octets::number_at;
 use record::acceptance;
 use record::give;
@@ -21,11 +21,13 @@ ghost use Prim.Native.Nat.{_≤_};
 ghost use lib.ListN.{length};
 ghost use Rattle.octets.specs.Strings.{put};
 ghost use Rattle.rows.specs.Row.{row-holds};
+ghost use Rattle.rows.specs.Search.{find};
 ghost use Rattle.statement.specs.Kinds.{reading-size};
 ghost use Rattle.statement.specs.Contents.{statement-written};
 ghost use Rattle.rules.specs.Outcomes.{Lent, outcome};
 ghost use Rattle.rules.specs.Rows.{receipt-of};
 ghost use Rattle.rules.specs.Read.{read-kind, reading, appending-and-reading};
+ghost use Rattle.ledgers.specs.Tests.{place-if};
 
 // The bytes of the statements of Append and read.
 const BOTH: usize = RECEIPT_SIZE + READING_SIZE;
@@ -57,11 +59,11 @@ fn show(head: Head, label: [u8; 16], tail: [u8; 32], height: u64, nonce: [u8; 16
 pub fn read(head: Head, table: &[u8], label: [u8; 16], nonce: [u8; 16], area: &mut [u8]) -> Told
     ensures { λ r. ⌜ outcome r (now (table .entry)) (now (area .exit)) ≡ reading (record { head = head; table = now (table .entry); area = now (area .entry) }) label nonce ⌝ }
 {
-    let n = unfound(head, table, label, area, READING_SIZE);
-    if n != refusals::ACCEPTED {
-        return refusal(n, 0, head);
+    let sought = seek(head, table, label, area, READING_SIZE);
+    if sought.number != refusals::ACCEPTED {
+        return refusal(sought.number, 0, head);
     }
-    let i = place_of(head, table, label);
+    let i = sought.place;
     let tail = tail_at(table, i);
     show(head, label, tail, height_at(table, i), nonce, area);
     acceptance(READING_SIZE, head)
@@ -76,14 +78,17 @@ pub fn append_and_read(
     expected: u64,
     nonce: [u8; 16],
     area: &mut [u8],
-) -> Told
-    ensures { λ r. ⌜ outcome r (now (table .exit)) (now (area .exit)) ≡ appending-and-reading (record { head = head; table = now (table .entry); area = now (area .entry) }) label entry expected nonce ⌝ }
+) -> Moved
+    ensures outcome { λ r. ⌜ outcome (r .told) (now (table .exit)) (now (area .exit))
+        ≡ appending-and-reading (record { head = head; table = now (table .entry); area = now (area .entry) }) label entry expected nonce ⌝ }
+    ensures place { λ r. ⌜ r .place ≡ place-if (r .told .answer .number) (find (head .count) (now (table .entry)) label) ⌝ }
 {
-    let refused = refusal_of_append(head, table, label, expected, area, BOTH);
-    if refused.answer.number != refusals::ACCEPTED {
-        return refused;
+    let found = refusal_of_append(head, table, label, expected, area, BOTH);
+    if found.told.answer.number != refusals::ACCEPTED {
+        return found;
     }
-    let row = enter(head, table, label, entry, area);
+    let place = found.place;
+    let row = enter(head, table, place, label, entry, area);
     let tail = row.tail;
     show(
         head,
@@ -93,5 +98,6 @@ pub fn append_and_read(
         nonce,
         &mut area[RECEIPT_SIZE..],
     );
-    acceptance(BOTH, head)
+    let told = acceptance(BOTH, head);
+    Moved { told, place }
 }

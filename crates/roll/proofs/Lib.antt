@@ -3,6 +3,7 @@ pub mod Strings
 pub mod Blocks
 pub mod Cuts
 pub mod Rolls
+pub mod Spreads
 pub mod RollTrips
 pub mod Outcomes
 pub mod NumbersToTry

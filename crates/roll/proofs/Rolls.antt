@@ -8,9 +8,9 @@ use borrow.Author.Tests.{lt-ltb, le-ltb}
 use lib.ListN.{length}
 use Rattle.refusals.specs.{accepted, area-too-short, roll-broken}
 use Rattle.octets.specs.Strings.{put, same}
-use Rattle.octets.specs.declared.Counted.{Counted}
 use Rattle.octets.specs.Layouts.{holds, read, unwritten, writing}
 use Rattle.octets.proofs.Compared.{same-lengths}
+use Rattle.octets.proofs.RoundTrips.{holds-fits, holds-written}
 use Rattle.rows.specs.Table.{rows-fit}
 use Rattle.rows.proofs.Tables.{and-false, fit-length, fit-count, fit-rest}
 use Rattle.rows.specs.Sizes.{table-bytes, most-rows, row-bytes}
@@ -80,16 +80,20 @@ module _ (s : List ℕ) where
     pub blocks-decide : holds roll-layout s ≡ same (first-blocks (said-count s) (cut-table s) (blocks (said-count s))) s
     blocks-decide = holds-is ∙ ap (λ (t : Bool). t && same (first-blocks (said-count s) (cut-table s) (blocks (said-count s))) s) fit
 
+  -- a roll has as many blocks as its count asks, and no more rows than a table
+  module _ (h : holds roll-layout s ≡ true) where
+    pub holds-long : block-bytes * blocks (said-count s) ≡ length s
+    unfolding roll-layout
+    holds-long = sym (written-length (said-count s) (cut-table s) (holds-fits roll-layout s h)) ∙ ap length (holds-written roll-layout s h)
+
+    pub holds-few : said-count s ≤ most-rows
+    unfolding roll-layout
+    holds-few = fit-count (said-count s) (cut-table s) (holds-fits roll-layout s h)
+
   module _ (area : List ℕ) where
     pub reading-broken : holds roll-layout s ≡ false → reading-roll s area ≡ record { answer = roll-broken; count = 0; rows = area }
     unfolding reading-roll read outcome
     reading-broken h = rw h
-
-    -- a refusal is what reading a string that is no roll gives
-    pub refused :
-        (r : Counted) → r ≡ record { answer = roll-broken; count = 0 } → holds roll-layout s ≡ false
-        → record { answer = r .answer; count = r .count; rows = area } ≡ reading-roll s area
-    refused r e h = ap (λ (q : Counted). record { answer = q .answer; count = q .count; rows = area }) e ∙ sym (reading-broken h)
 
     pub reading-done : holds roll-layout s ≡ true → reading-roll s area ≡ record { answer = accepted; count = said-count s; rows = cut-table s }
     unfolding reading-roll read outcome roll-layout

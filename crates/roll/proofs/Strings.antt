@@ -1,8 +1,9 @@
 -- Laws of strings that are compared part by part and filled up with zeros. Assumes nothing.
 use mathlib.Core.Path.{_≡_, refl, sym, ap, ap₂, _∙_}
 use mathlib.Core.Bool.{Bool, true, false, _&&_}
-use mathlib.Core.List.{List, [], _∷_, _++_}
+use mathlib.Core.List.{List, [], _∷_, _++_, append-nil}
 use Prim.Native.Nat.{ℕ, zero, suc, _+_, _-_, _≤_}
+use native.Mathlib.Nat.{add-zero}
 use native.Mathlib.Omega.{arith}
 use borrow.Author.Tests.{eqb-true}
 use lib.ListN.{length, take, drop, replicate, length-append, length-take, length-drop, length-replicate, take-append-drop}
@@ -53,6 +54,11 @@ filled-front l k m n h g e z =
 pub filled-length : (n : ℕ) (g : List ℕ) → length g ≤ n → length (filled n g) ≡ n
 unfolding filled
 filled-length n g h = simp (length-append, length-replicate) (omega arith)
+
+-- nothing put into a string
+pub put-none : (d : List ℕ) (at : ℕ) → put d at [] ≡ d
+unfolding put
+put-none d at = ap₂ (λ (x : List ℕ) (k : ℕ). x ++ drop k d) (append-nil (take at d)) (add-zero at) ∙ take-append-drop at d
 
 -- a string put behind what fills the front
 pub put-filled :

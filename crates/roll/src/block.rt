@@ -6,7 +6,7 @@ ghost use mathlib.Core.Path.{_≡_};
 ghost use Prim.Native.Nat.{_≤_, _<_};
 ghost use lib.ListN.{length};
 ghost use Rattle.rows.specs.Sizes.{most-rows, table-bytes};
-ghost use Rattle.roll.specs.Blocks.{blocks, block};
+ghost use Rattle.roll.specs.Blocks.{blocks, head, block};
 
 // The row places of a block, its head and its places; the check comes behind them.
 pub const PLACES: usize = 9;
@@ -30,6 +30,19 @@ pub fn blocks(count: u8) -> usize
     (count as usize + (PLACES - 1)) / PLACES
 }
 
+// The head of block b.
+pub fn head_of(count: u8, b: usize) -> [u8; HEAD]
+    requires { ⌜ (count ≤ most-rows) × (b < blocks count) ⌝ }
+    ensures { λ r. ⌜ r ≡ head count b ⌝ }
+{
+    let mut head = [0u8; HEAD];
+    head[0] = b as u8;
+    head[1] = blocks(count) as u8;
+    head[COUNT_PLACE] = count;
+    head[3] = LAYOUT;
+    head
+}
+
 // Block b of a roll.
 pub fn made_block(count: u8, rows: &[u8], b: usize) -> [u8; BLOCK]
     requires { ⌜ (count ≤ most-rows) × (length (now rows) ≡ table-bytes) × (b < blocks count) ⌝ }
@@ -37,10 +50,7 @@ pub fn made_block(count: u8, rows: &[u8], b: usize) -> [u8; BLOCK]
 {
     let from = PLACES_BYTES * b;
     let mut block = [0u8; BLOCK];
-    block[0] = b as u8;
-    block[1] = blocks(count) as u8;
-    block[COUNT_PLACE] = count;
-    block[3] = LAYOUT;
+    octets::copy_at(&mut block, 0, &head_of(count, b));
     octets::copy_at(&mut block, HEAD, &rows[from..from + PLACES_BYTES]);
     let check = checks::check_of(&block[..CHECKED]);
     octets::copy_at(&mut block, CHECKED, &check);

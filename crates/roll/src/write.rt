@@ -3,7 +3,6 @@ use crate::block::blocks;
 use crate::block::made_block;
 use checks::BLOCK;
 use octets::Written;
-use rows::TABLE;
 ghost use mathlib.Core.Path.{_≡_};
 ghost use Prim.Native.Nat.{_*_, _≤_};
 ghost use lib.ListN.{length};
@@ -26,7 +25,7 @@ fn put_blocks(count: u8, rows: &[u8], n: usize, area: &mut [u8])
 }
 
 // Writes the blocks of a roll at the front of the area, or refuses and changes nothing.
-pub fn write_roll(count: u8, rows: &[u8; TABLE], area: &mut [u8]) -> Written
+pub fn write_roll(count: u8, rows: &[u8], area: &mut [u8]) -> Written
     ensures { λ r. ⌜ record { answer = r .answer; count = r .count; area = now (area .exit) } ≡ writing-roll count (now (rows .entry)) (now (area .entry)) ⌝ }
 {
     if !rows::rows_fit(rows, count as usize) {

@@ -1,5 +1,6 @@
 -- Laws of the calls by which one rack follows another.
-pub mod Locals
 pub mod OtherTables
-pub mod PassedOn
+pub mod Repeats
+pub mod Initialised
+pub mod Checked
 pub mod Outcomes

@@ -3,6 +3,7 @@ mod activating;
 mod finalising;
 mod messages;
 mod passing;
+mod status;
 
 pub use activating::mahqurith_activate;
 pub use finalising::mahqurith_finalise;

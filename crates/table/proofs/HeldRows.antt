@@ -1,8 +1,8 @@
 -- Laws of what a call leaves with the table as rows. Assumes nothing.
-use mathlib.Core.Path.{_≡_, refl, ap, _∙_}
+use mathlib.Core.Path.{_≡_, refl, sym, ap, _∙_}
 use mathlib.Core.Bool.{Bool, true, false, cond, _&&_}
 use mathlib.Core.List.{List, _∷_, _++_}
-use Prim.Native.Nat.{ℕ, _*_}
+use Prim.Native.Nat.{ℕ, _*_, _≤_}
 use native.Mathlib.Omega.{arith}
 use borrow.Author.Tests.{eq-eqb, ne-eqb}
 use lib.ListN.{length}
@@ -13,23 +13,14 @@ use Rattle.rows.specs.Sizes.{most-rows, row-bytes, table-bytes}
 use Rattle.rows.specs.Table.{rows-fit}
 use Rattle.rules.specs.declared.Head.{Head}
 use Rattle.rules.specs.declared.Answer.{Answer}
-use Rattle.rules.specs.declared.Told.{Told}
 use Rattle.rules.specs.Record.{blank, finalised, sound}
-use Rattle.rules.specs.Outcomes.{Lent, Outcome, outcome, refusing, refused, unless, lending, readiness}
+use Rattle.rules.specs.Outcomes.{Lent, Outcome, refusing, refused, unless, lending, readiness}
 use Rattle.table.specs.declared.Row.{Row}
-use Rattle.table.specs.declared.Kept.{Kept}
 use Rattle.table.specs.declared.Asked.{Asked}
-use Rattle.table.specs.Flat.{flattened, rows-of}
-use Rattle.table.specs.Held.{Held, as-rows, over-rows, other-answer}
-use Rattle.table.proofs.RowTrips.{AllTyped, flattened-length}
-
--- what is kept of a call on flat bytes
-pub held-as-rows :
-    (k : Kept) (t : Told) (table area : List ℕ) (o : Outcome) → k ≡ record { answer = t .answer; head = t .head; rows = rows-of most-rows table } → outcome t table area ≡ o
-    → _≡_ {A = Held} (record { answer = k .answer; head = k .head; rows = k .rows; area = area }) (as-rows o)
-unfolding as-rows
-held-as-rows k t table area o p e =
-    ap (λ (l : Kept). record { answer = l .answer; head = l .head; rows = l .rows; area = area }) p ∙ ap as-rows e
+use Rattle.table.specs.declared.Left.{Left}
+use Rattle.table.specs.Flat.{flattened, rows-of, rows-put}
+use Rattle.table.specs.Held.{Held, Leaves, as-rows, over-rows, other-answer}
+use Rattle.table.proofs.RowTrips.{AllTyped, flattened-length, rows-flattened}
 
 module _ (rule : Lent → Outcome) (head : Head) (rows : List Row) (area : List ℕ) where
   abbrev lent : Lent
@@ -60,11 +51,16 @@ last-false false b c e = refl
 pub unsound : (head : Head) (rows : List Row) → AllTyped rows → (length rows ≡ most-rows → ⊥) → sound head (flattened rows) ≡ false
 unfolding sound rows-fit
 unsound head rows ts n =
-    last-false (leb (head .status) finalised) (cond (eqb (head .status) blank) (eqb (head .count) 0) true) _ (rw (ne-eqb (length (flattened rows)) table-bytes (other-table rows ts n)))
+    last-false (leb (head .status) finalised) (cond (eqb (head .status) blank) (eqb (head .count) 0) true) _ (rw (ne-eqb (length (flattened rows)) table-bytes
+    (other-table rows ts n)))
 
 -- "1, 2", whatever is asked after them
 pub one-or-two : (b : Bool) (rest : List Test) (height : ℕ) (k : Lent) (effect : Outcome)
-    → unless (first ((b ⇒ area-too-short) ∷ (true ⇒ record-not-sound) ∷ rest)) height k effect ≡ record { answer = refusing (cond b area-too-short record-not-sound) 0; left = k }
+    → unless (first ((b ⇒ area-too-short) ∷ (true ⇒ record-not-sound) ∷ rest)) height k effect ≡ record {
+      answer = refusing (cond b area-too-short
+          record-not-sound) 0;
+      left = k;
+    }
 unfolding first refused unless
 one-or-two true rest height k effect = refl
 one-or-two false rest height k effect = refl
@@ -80,3 +76,46 @@ abbrev pub RefusesOther : (Lent → Asked → Outcome) → ℕ → Type 0
 RefusesOther rule size = (head : Head) (rows : List Row) (asked : Asked) (area : List ℕ) → AllTyped rows → (length rows ≡ most-rows → ⊥)
     → rule (record { head = head; table = flattened rows; area = area }) asked
     ≡ record { answer = other-answer (length area) size; left = record { head = head; table = flattened rows; area = area } }
+
+-- what a core leaves, written back where it changed, is the outcome
+pub leaves-held :
+    (l : Left) (head : Head) (rows : List Row) (area table after : List ℕ) (o : Outcome) → AllTyped rows → length rows ≡ most-rows
+    → Leaves l (record { head = head; table = flattened rows; area = area }) table after o
+    → _≡_ {A = Held} (record {
+      answer = l .answer;
+      head = cond (l .changed) (l .head) head;
+      rows = rows-put (l .from) (l .to) rows (rows-of most-rows table);
+      area = after;
+    }) (as-rows o)
+unfolding Leaves as-rows
+leaves-held l head rows area table after o ts e p =
+    let same : rows-of most-rows (flattened rows) ≡ rows = ap (λ (n : ℕ). rows-of n (flattened rows)) (sym e) ∙ rows-flattened ts in
+    ap (λ (g : Head). record { answer = l .answer; head = g; rows = rows-put (l .from) (l .to) rows (rows-of most-rows table); area = after }) (p .1)
+    ∙ ap (λ (rs : List Row). record { answer = l .answer; head = l .head; rows = rs; area = after })
+    (ap (λ (rs : List Row). rows-put (l .from) (l .to) rs (rows-of most-rows table)) (sym same) ∙ p .4)
+    ∙ ap as-rows (p .0)
+
+pub leaves-bounds : (l : Left) (before : Lent) (table area : List ℕ) (o : Outcome) → Leaves l before table area o → (l .from ≤ l .to) × (l .to ≤ most-rows)
+unfolding Leaves
+leaves-bounds l before table area o p = (p .2, p .3)
+
+-- what a core answers that leaves the record is the outcome
+pub answers-held :
+    (a : Answer) (head : Head) (rows : List Row) (after : List ℕ) (o : Outcome) → AllTyped rows → length rows ≡ most-rows
+    → _≡_ {A = Outcome} (record { answer = a; left = record { head = head; table = flattened rows; area = after } }) o
+    → _≡_ {A = Held} (record { answer = a; head = head; rows = rows; area = after }) (as-rows o)
+unfolding as-rows
+answers-held a head rows after o ts e p =
+    let same : rows-of most-rows (flattened rows) ≡ rows = ap (λ (n : ℕ). rows-of n (flattened rows)) (sym e) ∙ rows-flattened ts in
+    ap (λ (rs : List Row). record { answer = a; head = head; rows = rs; area = after }) (sym same) ∙ ap as-rows p
+
+-- what a core leaves that leaves the rows is the outcome
+pub leaves-rows :
+    (l : Left) (head : Head) (rows : List Row) (area after : List ℕ) (o : Outcome) → AllTyped rows → length rows ≡ most-rows
+    → Leaves l (record { head = head; table = flattened rows; area = area }) (flattened rows) after o
+    → _≡_ {A = Held} (record { answer = l .answer; head = cond (l .changed) (l .head) head; rows = rows; area = after }) (as-rows o)
+unfolding Leaves as-rows
+leaves-rows l head rows area after o ts e p =
+    let same : rows-of most-rows (flattened rows) ≡ rows = ap (λ (n : ℕ). rows-of n (flattened rows)) (sym e) ∙ rows-flattened ts in
+    ap (λ (g : Head). record { answer = l .answer; head = g; rows = rows; area = after }) (p .1)
+    ∙ ap (λ (rs : List Row). record { answer = l .answer; head = l .head; rows = rs; area = after }) (sym same) ∙ ap as-rows (p .0)

@@ -24,20 +24,20 @@ abbrev pub held : Answer → Head → List Row → List ℕ → Held
 held answer head rows area = record { answer = answer; head = head; rows = rows; area = area }
 
 module _ {M : Type 1} (𝓤 : URA M) (T : Ended) (c : Clauses 𝓤 T) where
-  -- two outcomes that the contract allows for the same arguments are equal; `seen` is the outcome
-  abbrev pub One : ((κs : Lfts (T .signature .lifetimes)) → Res (T .signature) κs → AtExit T κs → Held) → Type 1
+  -- two outcomes that the contract allows for the same arguments are equal; `seen` is the outcome. What is lent shared is as the argument has it
+  abbrev pub One : ((κs : Lfts (T .signature .lifetimes)) → Args (T .signature) κs → Res (T .signature) κs → AtExit T κs → Held) → Type 1
   One seen =
       (κs : Lfts (T .signature .lifetimes)) (a : Args (T .signature) κs) (g : c κs a .ghost) (r r′ : Res (T .signature) κs) (e e′ : AtExit T κs)
-      → ent 𝓤 (sep 𝓤 (c κs a .ensures g r e) (c κs a .ensures g r′ e′)) (fact 𝓤 (seen κs r e ≡ seen κs r′ e′))
+      → ent 𝓤 (sep 𝓤 (c κs a .ensures g r e) (c κs a .ensures g r′ e′)) (fact 𝓤 (seen κs a r e ≡ seen κs a r′ e′))
 
   -- an answer other than 0 leaves head, rows and area as they were lent: the outcome is `lent` with that answer, where the rows are as their type has them
   abbrev pub Spared :
       ((κs : Lfts (T .signature .lifetimes)) → Args (T .signature) κs → Answer → Held)
-      → ((κs : Lfts (T .signature .lifetimes)) → Res (T .signature) κs → AtExit T κs → Held) → Type 1
+      → ((κs : Lfts (T .signature .lifetimes)) → Args (T .signature) κs → Res (T .signature) κs → AtExit T κs → Held) → Type 1
   Spared lent seen =
       (κs : Lfts (T .signature .lifetimes)) (a : Args (T .signature) κs) (g : c κs a .ghost) (r : Res (T .signature) κs) (e : AtExit T κs)
-      → AllTyped (lent κs a (seen κs r e .answer) .rows)
-      → ent 𝓤 (c κs a .ensures g r e) (fact 𝓤 ((seen κs r e .answer .number ≡ accepted → ⊥) → seen κs r e ≡ lent κs a (seen κs r e .answer)))
+      → AllTyped (lent κs a (seen κs a r e .answer) .rows)
+      → ent 𝓤 (c κs a .ensures g r e) (fact 𝓤 ((seen κs a r e .answer .number ≡ accepted → ⊥) → seen κs a r e ≡ lent κs a (seen κs a r e .answer)))
 
 -- both hold of a contract by `over-rows` of a rule
 module _ {M : Type 1} (𝓤 : URA M) (rule : Lent → Outcome) (head : Head) (rows : List Row) (area : List ℕ) where

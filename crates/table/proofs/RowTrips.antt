@@ -52,7 +52,8 @@ cut-string r t =
     let f : drop (label-bytes + tail-bytes) ((r .label ++ r .tail) ++ n) ≡ n =
     drop-at (r .label ++ r .tail) n (label-bytes + tail-bytes) (length-append (r .label) (r .tail) ∙ ap₂ (λ (x y : ℕ). x + y) (t .label) (t .tail)) in
     let h : number-of (take height-bytes (drop (label-bytes + tail-bytes) ((r .label ++ r .tail) ++ n))) ≡ r .height =
-    ap (λ (l : List ℕ). number-of (take height-bytes l)) f ∙ ap number-of (take-all height-bytes n (omega (arith, bytes-length height-bytes (r .height)))) ∙ number-bytes height-bytes (r .height)
+    ap (λ (l : List ℕ). number-of (take height-bytes l)) f ∙ ap number-of (take-all height-bytes n (omega (arith, bytes-length height-bytes (r .height)))) ∙
+    number-bytes height-bytes (r .height)
     (t .height) in
     same-row (take label-bytes w) (take tail-bytes (drop label-bytes w)) (number-of (take height-bytes (drop (label-bytes + tail-bytes) w))) r a b h
 
@@ -68,7 +69,8 @@ string-cut s n o =
     let t : List ℕ = drop (label-bytes + tail-bytes) s in
     let l : length t ≡ height-bytes = length-drop (label-bytes + tail-bytes) s ∙ omega arith in
     let h : bytes-of height-bytes (number-of (take height-bytes t)) ≡ t =
-    ap (λ (x : List ℕ). bytes-of height-bytes (number-of x)) (take-all height-bytes t (omega arith)) ∙ ap (λ (k : ℕ). bytes-of k (number-of t)) (sym l) ∙ bytes-number t (octets-drop (label-bytes
+    ap (λ (x : List ℕ). bytes-of height-bytes (number-of x)) (take-all height-bytes t (omega arith)) ∙ ap (λ (k : ℕ). bytes-of k (number-of t)) (sym l) ∙
+    bytes-number t (octets-drop (label-bytes
     + tail-bytes) s o) in
     ap (λ (x : List ℕ). (take label-bytes s ++ take tail-bytes (drop label-bytes s)) ++ x) h
     ∙ ap (λ (x : List ℕ). x ++ t) (sym (take-add label-bytes tail-bytes s)) ∙ parts s (label-bytes + tail-bytes)
@@ -144,7 +146,7 @@ rows-of-typed (suc n) s h o =
     cons (cut-typed (take row-bytes s) (length-take-le row-bytes s (omega arith)) (octets-take row-bytes s o))
     (rows-of-typed n (drop row-bytes s) (omega (arith, length-drop row-bytes s)) (octets-drop row-bytes s o))
 
-typed-get : {rows : List Row} (i : ℕ) (d : Row) → AllTyped rows → i < length rows → Typed (getD rows i d)
+pub typed-get : {rows : List Row} (i : ℕ) (d : Row) → AllTyped rows → i < length rows → Typed (getD rows i d)
 typed-get i d nil h = absurd (not-suc-le-zero h)
 typed-get zero d (cons t ts) h = t
 typed-get (suc i) d (cons t ts) h = typed-get i d ts (le-of-suc-le-suc h)
@@ -163,19 +165,20 @@ rows-none s = refl
 
 -- one row more is put
 pub flattened-next :
-    (rows : List Row) (i : ℕ) (s t : List ℕ) (d : Row) → AllTyped rows → i < length rows → row-bytes * i + row-bytes ≤ length s
+    (rows : List Row) (i : ℕ) (s t : List ℕ) (d : Row) → Typed (getD rows i d) → i < length rows → row-bytes * i + row-bytes ≤ length s
     → take (row-bytes * i) s ≡ flattened (take i rows) → t ≡ put s (row-bytes * i) (row-string (getD rows i d))
     → (length t ≡ length s) × (take (row-bytes * (i + 1)) t ≡ flattened (take (i + 1) rows))
 unfolding flattened
-flattened-next rows i s t d ts h n e p =
+flattened-next rows i s t d typed h n e p =
     let r : Row = getD rows i d in
-    let w : length (row-string r) ≡ row-bytes = string-length r (typed-get i d ts h) in
+    let w : length (row-string r) ≡ row-bytes = string-length r typed in
     let k : row-bytes * (i + 1) ≡ row-bytes * i + length (row-string r) = omega arith in
     let m : map row-string (take (i + 1) rows) ≡ map row-string (take i rows) ++ (row-string r ∷ []) =
     ap (λ (j : ℕ). map row-string (take j rows)) (add-one i) ∙ ap (map row-string) (take-suc rows i d h) ∙ map-next row-string (take i rows) r in (
       ap length p ∙ put-length s (row-bytes * i) (row-string r) (omega arith),
       ap₂ (λ (j : ℕ) (l : List ℕ). take j l) k p ∙ take-put s (row-bytes * i) (row-string r) (omega arith) ∙ ap (λ (l : List ℕ). l ++ row-string r) e
-          ∙ sym (ap flatten m ∙ flatten-append (map row-string (take i rows)) (row-string r ∷ []) ∙ ap (λ (l : List ℕ). flatten (map row-string (take i rows)) ++ l) (flatten-one (row-string r))),
+          ∙ sym (ap flatten m ∙ flatten-append (map row-string (take i rows)) (row-string r ∷ []) ∙ ap (λ (l : List ℕ). flatten (map row-string (take i rows))
+          ++ l) (flatten-one (row-string r))),
     )
 
 -- one row more is taken out

@@ -10,13 +10,13 @@ use rows::TABLE;
 use rows::TAIL;
 ghost use mathlib.Core.Path.{_≡_};
 ghost use Prim.Native.Nat.{_+_, _*_, _≤_};
-ghost use lib.ListN.{length, take, drop};
+ghost use lib.ListN.{length, take, drop, replicate};
 ghost use Rattle.octets.specs.Strings.{put};
 ghost use Rattle.rows.specs.Sizes.{row-bytes, most-rows};
 ghost use Rattle.table.specs.Flat.{row-string, flattened, row-cut, rows-of};
 
 // Puts a row's bytes in the place of row i.
-fn put_row(bytes: &mut [u8], i: usize, row: Row)
+pub fn put_row(bytes: &mut [u8], i: usize, row: Row)
     requires { ⌜ row-bytes * i + row-bytes ≤ length (now bytes) ⌝ }
     ensures { λ _. ⌜ now (bytes .exit) ≡ put (now (bytes .entry)) (row-bytes * i) (row-string row) ⌝ }
 {
@@ -60,12 +60,23 @@ fn row_cut(bytes: &[u8]) -> Row
 }
 
 // The row in place i.
-fn row_at(bytes: &[u8], i: usize) -> Row
+pub fn row_at(bytes: &[u8], i: usize) -> Row
     requires { ⌜ row-bytes * i + row-bytes ≤ length (now bytes) ⌝ }
     ensures { λ r. ⌜ r ≡ row-cut (take row-bytes (drop (row-bytes * i) (now (bytes .entry)))) ⌝ }
 {
     let at = ROW * i;
     row_cut(&bytes[at..at + ROW])
+}
+
+// The row of zeros.
+pub fn blank_row() -> Row
+    ensures { λ r. ⌜ r ≡ row-cut (replicate row-bytes 0) ⌝ }
+{
+    Row {
+        label: [0u8; LABEL],
+        tail: [0u8; TAIL],
+        height: 0,
+    }
 }
 
 // The rows of a table's bytes.

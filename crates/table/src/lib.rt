@@ -1,20 +1,22 @@
-// The record that a caller lends: the ledger table as rows, taken in by value and put back, over the core's flat bytes.
+// The record that a caller lends: the ledger table as rows, read once into the core's flat bytes; what a call leaves, written back where it changed.
 mod flattening;
+mod heads;
+mod leaving;
 mod lent;
 mod other;
-mod values;
 
 pub use flattening::flat;
 pub use flattening::rows_of;
-pub use lent::rows_in;
+pub use heads::head_out;
+pub use leaving::leave;
+pub use lent::flat_in;
+pub use lent::rows_clear;
 pub use lent::rows_out;
 pub use other::other_length;
 use rows::LABEL;
-use rows::MOST;
 use rows::TAIL;
 use rules::Answer;
 use rules::Head;
-pub use values::keep;
 
 // A ledger's row.
 #[repr(C)]
@@ -24,11 +26,13 @@ pub struct Row {
     pub height: u64,
 }
 
-// What a call leaves: its answer, the head and the rows.
-pub struct Kept {
+// What a call leaves beside the table's bytes: its answer, the head, whether that is another one, and from which row to before which one the table is.
+pub struct Left {
     pub answer: Answer,
     pub head: Head,
-    pub rows: [Row; MOST],
+    pub changed: bool,
+    pub from: usize,
+    pub to: usize,
 }
 
 // What a keeper is asked, at fixed sizes; each call reads what it needs.

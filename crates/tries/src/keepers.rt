@@ -73,6 +73,6 @@ pub fn enter(
     expected: u64,
     receipt: &mut [u8; RECEIPT_SIZE],
 ) -> Answer {
-    let told = appending::append(head, table, label(1), key(1), expected, receipt);
-    told.answer
+    let moved = appending::append(head, table, label(1), key(1), expected, receipt);
+    moved.told.answer
 }

@@ -23,23 +23,20 @@ use Rattle.appending.proofs.appending.enter.Tie as tie
 
 given-receipt :
     (c : tie.After-receipt) →
-    let a = c .before .before .before .before .before .before .before .before .before .before .args in
+    let a = c .before .before .before .before .before .before .before .before .args in
     let k : Lent = record { head = a .head; table = now (a .table); area = now (a .area) } in
     c .receipt .result ≡ receipt-of (a .head) (Append (next-height k (a .label))) (a .label) (next-tail k (a .label) (a .entry))
 given-receipt c =
     let moves = c .before .before .before .before in
-    let a = moves .before .before .before .before .before .before .args in
+    let a = moves .before .before .before .before .args in
     let k : Lent = record { head = a .head; table = now (a .table); area = now (a .area) } in
     moved-receipt k (a .label) (a .entry) Append (c .receipt .result) _ _ _ (c .receipt .ensures) (moves .move-on .ensures .1 .0) (moves .move-on .ensures .1 .1)
-    (moves .before .before .place-of .ensures)
-
-place-of-requires : tie.Need-place-of-requires
-place-of-requires c κs = search needs
+    (moves .before .before .before .before .pre .1)
 
 move-on-requires : tie.Need-move-on-requires
 move-on-requires c κs =
-    let m = c .before .before .before .before .before .pre in
-    let place = c .before .place-of .ensures in
+    let m = c .before .before .before .pre .0 in
+    let place = c .before .before .before .pre .1 in
     (omega (arith, m .there .place, place), m .there .long, rw place (m .below))
 
 receipt-requires : tie.Need-receipt-requires
@@ -47,9 +44,9 @@ receipt-requires c κs = search needs
 
 give-requires : tie.Need-give-requires
 give-requires c κs =
-    let entry = c .before .before .before .before .before .before .before .before .before .before .before in
+    let entry = c .before .before .before .before .before .before .before .before .before in
     let e = given-receipt (c .before) in
-    (ap statement-fits e ∙ append-fits (entry .args .head) _ _ _ (entry .pre .next _), rw e (entry .pre .there .room))
+    (ap statement-fits e ∙ append-fits (entry .args .head) _ _ _ (entry .pre .0 .next _), rw e (entry .pre .0 .there .room))
 
 same-length : tie.Need-same-length
 same-length c = search needs
@@ -62,10 +59,10 @@ unfolding append-statement moved-on
 returns c =
     let given = c .before .before .before .before in
     let moves = given .before .before .before .before in
-    let a = moves .before .before .before .before .before .before .args in
-    let m = moves .before .before .before .before .before .before .pre in
+    let a = moves .before .before .before .before .args in
+    let m = moves .before .before .before .before .pre .0 in
     let t : List ℕ = now (a .table) in
-    let place = moves .before .before .place-of .ensures in
+    let place = moves .before .before .before .before .pre .1 in
     let e = given-receipt given in
     record {
       moves = moves .move-on .ensures .0 ∙ ap (λ (i : ℕ). moved t i (appended (tail-of t i) (a .entry)) (height-of t i + 1)) place;
@@ -79,7 +76,6 @@ pub enter-spec : {M : Type 1} → statement M
 enter-spec =
     tie.close
     (tie.spec
-    place-of-requires
     move-on-requires
     receipt-requires
     give-requires

@@ -12,6 +12,9 @@ use Rattle.interface.proofs.rolls.mahqurith_write_roll.Tie as tie
 flat-requires : tie.Need-flat-requires
 flat-requires c κs = search needs
 
+slice-aggregate-write-roll : tie.Need-slice-aggregate-write-roll
+slice-aggregate-write-roll c = search needs
+
 write-roll-requires : tie.Need-write-roll-requires
 write-roll-requires c κs = search needs
 
@@ -26,4 +29,4 @@ returns c =
 
 pub mahqurith-write-roll-spec : {M : Type 1} → statement M
 mahqurith-write-roll-spec =
-    tie.close (tie.spec flat-requires write-roll-requires same-length returns)
+    tie.close (tie.spec flat-requires slice-aggregate-write-roll write-roll-requires same-length returns)

@@ -11,11 +11,14 @@ use Rattle.octets.specs.Strings.{put}
 use Rattle.statement.specs.declared.Statement.{Statement}
 use Rattle.statement.specs.Kinds.{receipt-size, reading-size}
 use Rattle.statement.specs.Contents.{statement-written}
+use Rattle.rules.specs.declared.Told.{Told}
 use Rattle.rules.specs.Outcomes.{Lent}
-use Rattle.rules.specs.Rows.{receipt-of}
+use Rattle.rules.specs.Rows.{sought, receipt-of}
 use Rattle.rules.specs.Append.{next-tail, next-height, append-statement}
 use Rattle.rules.specs.Read.{read-kind, appending-and-reading}
+use Rattle.ledgers.specs.Tests.{place-if}
 use Rattle.ledgers.proofs.Given.{told-none, told-one, refuses, accepts}
+use Rattle.ledgers.proofs.Places.{placed}
 use Rattle.appending.specs.Known.{Appendable}
 use Rattle.appending.proofs.Entries.{fewer, appendable}
 use Rattle.reading.proofs.Readings.{rest-put}
@@ -30,7 +33,7 @@ can :
     Appendable (receipt-size + reading-size) (record { head = a .head; table = now (a .table); area = now (a .area) }) (a .label)
 can c =
     let told = c .before .before .refusal-of-append in
-    appendable (receipt-size + reading-size) _ _ _ (told-none _ _ _ (told .result) (told .ensures) (c .if1 .left))
+    appendable (receipt-size + reading-size) _ _ _ (told-none _ _ _ (told .result .told) (told .ensures .0) (c .if1 .left))
 
 refusal-of-append-requires : tie.Need-refusal-of-append-requires
 refusal-of-append-requires c κs = search needs
@@ -47,10 +50,12 @@ returns c =
     let a = c .before .before .before .before .before .before .before .args in
     let k : Lent = record { head = a .head; table = now (a .table); area = now (a .area) } in
     let told = c .before .before .refusal-of-append in
-    refuses k _ _ (told .result) _ (told-one _ _ _ (told .result) (told .ensures) (c .if1 .taken)) (told .ensures)
+    (refuses k _ _ (told .result .told) _ (told-one _ _ _ (told .result .told) (told .ensures .0) (c .if1 .taken)) (told .ensures .0), told .ensures .1)
 
 enter-requires : tie.Need-enter-requires
-enter-requires c κs = fewer receipt-size (omega arith) (can (c .before .before))
+enter-requires c κs =
+    let tested = c .before .before in
+    (fewer receipt-size (omega arith) (can tested), tested .before .before .refusal-of-append .ensures .1 ∙ placed _ _ (tested .if1 .left))
 
 sub-show : tie.Need-sub-show
 sub-show c = omega (arith, can (c .before .before .before .before .before .before .before .before) .there .room)
@@ -67,7 +72,7 @@ show-requires c κs =
     let a = entered .before .before .before .before .before .before .before .before .before .before .args in
     let e = entered .enter .ensures in
     let m = can (entered .before .before .before) in
-    let same : length (entered .enter .last .1 .1 .1 .1 .0) ≡ length (now (a .area)) = ap length (e .writes) ∙ put-length (now (a .area)) 0 _ (omega (arith, e .long, m .there .room)) in
+    let same : length (entered .enter .last .1 .1 .1 .1 .1 .0) ≡ length (now (a .area)) = ap length (e .writes) ∙ put-length (now (a .area)) 0 _ (omega (arith, e .long, m .there .room)) in
     (rw (e .tails, e .heights) (m .next _), simp (length-take, length-drop) (omega (arith, same, m .there .room)))
 
 acceptance-requires : tie.Need-acceptance-requires
@@ -94,17 +99,20 @@ returns-2 c =
     let first : List ℕ = append-statement k (a .label) (a .entry) in
     let second : List ℕ = statement-written (receipt-of (a .head) (read-kind (next-height k (a .label)) (a .nonce)) (a .label) (next-tail k (a .label) (a .entry))) in
     let long : length second ≡ reading-size = sym (ap (λ (x : Statement). length (statement-written x)) v) ∙ shown .show .ensures .1 in
-    let area : List ℕ = entered .enter .last .1 .1 .1 .1 .0 in
-    accepts k _ _ (c .acceptance .result) _ _ _ _ (a .head) (receipt-size + reading-size)
-    (told-none _ _ _ (told .result) (told .ensures) (tested .if1 .left))
-    (length-append first second ∙ omega (arith, e .long, long))
-    (c .acceptance .ensures)
-    (e .moves)
-    (ap (λ (x : List ℕ). putMid receipt-size (length area - receipt-size) area x)
-    (shown .show .ensures .0 ∙ ap (λ (x : Statement). put (take (length area - receipt-size) (drop receipt-size area)) 0 (statement-written x)) v)
-    ∙ rest-put area receipt-size second
-    ∙ ap (λ (x : List ℕ). put x receipt-size second) (e .writes)
-    ∙ put-put (now (a .area)) 0 first second receipt-size (omega (arith, e .long)) (omega (arith, e .long, long, can tested .there .room)))
+    let area : List ℕ = entered .enter .last .1 .1 .1 .1 .1 .0 in
+    let number = tested .if1 .left ∙ sym (ap (λ (t : Told). t .answer .number) (c .acceptance .ensures)) in (
+      accepts k _ _ (c .acceptance .result) _ _ _ _ (a .head) (receipt-size + reading-size)
+          (told-none _ _ _ (told .result .told) (told .ensures .0) (tested .if1 .left))
+          (length-append first second ∙ omega (arith, e .long, long))
+          (c .acceptance .ensures)
+          (e .moves)
+          (ap (λ (x : List ℕ). putMid receipt-size (length area - receipt-size) area x)
+          (shown .show .ensures .0 ∙ ap (λ (x : Statement). put (take (length area - receipt-size) (drop receipt-size area)) 0 (statement-written x)) v)
+          ∙ rest-put area receipt-size second
+          ∙ ap (λ (x : List ℕ). put x receipt-size second) (e .writes)
+          ∙ put-put (now (a .area)) 0 first second receipt-size (omega (arith, e .long)) (omega (arith, e .long, long, can tested .there .room))),
+      told .ensures .1 ∙ ap (λ (n : ℕ). place-if n (sought k (a .label))) number,
+    )
 
 pub append-and-read-spec : {M : Type 1} → statement M
 append-and-read-spec =

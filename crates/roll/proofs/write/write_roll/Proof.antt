@@ -41,9 +41,9 @@ returns-2 c =
 
 put-blocks-requires : tie.Need-put-blocks-requires
 put-blocks-requires c κs =
-    let a = c .before .before .before .before .before .before .before .before .args in
-    let fit = sym (c .before .before .before .before .before .rows-fit .ensures) ∙ not-false _ (c .before .before .before .before .if1 .left) in
-    let n : c .before .before .before .blocks2 .result ≡ blocks (a .count) = c .before .before .before .blocks2 .ensures in
+    let a = c .before .before .before .before .before .before .before .args in
+    let fit = sym (c .before .before .before .before .rows-fit .ensures) ∙ not-false _ (c .before .before .before .if1 .left) in
+    let n : c .before .before .blocks2 .result ≡ blocks (a .count) = c .before .before .blocks2 .ensures in
     (fit-count (a .count) (now (a .rows)) fit, fit-length (a .count) (now (a .rows)) fit, omega arith, omega arith)
 
 same-length : tie.Need-same-length
@@ -51,9 +51,9 @@ same-length c = search needs
 
 returns-3 : tie.Need-returns-3
 returns-3 c =
-    let a = c .before .before .before .before .before .before .before .before .before .before .before .args in
-    let fit = sym (c .before .before .before .before .before .before .before .before .rows-fit .ensures) ∙ not-false _ (c .before .before .before .before .before .before .before .if1 .left) in
-    let n : c .before .before .before .before .before .before .blocks2 .result ≡ blocks (a .count) = c .before .before .before .before .before .before .blocks2 .ensures in
+    let a = c .before .before .before .before .before .before .before .before .before .before .args in
+    let fit = sym (c .before .before .before .before .before .before .before .rows-fit .ensures) ∙ not-false _ (c .before .before .before .before .before .before .if1 .left) in
+    let n : c .before .before .before .before .before .blocks2 .result ≡ blocks (a .count) = c .before .before .before .before .before .blocks2 .ensures in
     ap₂ (λ (k : ℕ) (z : List ℕ). record { answer = 0; count = block-bytes * k; area = z }) n
     (c .before .before .put-blocks .ensures ∙ ap (λ (k : ℕ). put (now (a .area)) 0 (first-blocks (a .count) (now (a .rows)) k)) n)
     ∙ sym (writing-done (a .count) (now (a .rows)) (now (a .area)) fit (omega arith))

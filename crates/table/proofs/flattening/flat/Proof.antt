@@ -7,7 +7,7 @@ use lib.Seq.{take-all}
 use borrow.Author.Needs.{needs}
 use Rattle.rows.specs.Sizes.{most-rows, row-bytes, table-bytes}
 use Rattle.table.specs.Flat.{flattened}
-use Rattle.table.proofs.RowTrips.{flattened-next, flattened-none}
+use Rattle.table.proofs.RowTrips.{flattened-next, flattened-none, typed-get}
 use Rattle.table.proofs.RowTypes.{all-typed}
 use Rattle.table.proofs.flattening.flat.Statement.{statement}
 use Rattle.table.proofs.flattening.flat.Tie as tie
@@ -46,7 +46,8 @@ loop-again c =
     let g = o .good .0 in
     let p = c .before .put-row .ensures in
     let n : length (o .args .t1) ≡ most-rows = g .1 .0 .1 in
-    let k = flattened-next (o .args .t1) (l .i) (l .bytes) _ _ (all-typed _ _ (g .1 .1)) (omega arith) (omega arith) (l .inv .2) p in
+    let k = flattened-next (o .args .t1) (l .i) (l .bytes) _ _ (typed-get {rows = o .args .t1} (l .i) _ (all-typed _ _ (g .1 .1)) (omega arith)) (omega
+    arith) (omega arith) (l .inv .2) p in
     (omega arith, k .0 ∙ l .inv .1, k .1)
 
 returns : tie.Need-returns Inv-loop μ-loop
