@@ -3,23 +3,23 @@
  * x86-64. The archive has code for x86-64 and for no other processor.
  *
  * Every function accepts any values and any bytes, keeps nothing between calls, allocates nothing and ends. Faulty input
- * is refused with one of the numbers below. A refusal changes no byte of head, rows, area or output.
+ * is refused with one of the numbers below. A refusal changes no byte of head, rows, area, output or bundle.
  *
- * Arguments come in one order: the keeper's record (head, rows and how many rows) or the store's area (a pointer and a
- * length), what is asked at fixed sizes, the messages (each a pointer and a length), the output area (a pointer and a
- * length).
+ * Arguments come in one order: the keeper's record (head, rows and how many rows), the store's area or the bundle that is
+ * marked (a pointer and a length), what is asked at fixed sizes, the messages (each a pointer and a length), the output area
+ * (a pointer and a length).
  *
  * An accepted call answers 0 and how many bytes it wrote: the first of the area. The rest of the area stays.
  *
  * What a caller owes, all of it:
  *
  * - A pointer that comes with a length (rows with how many, messages, the area) may be null where that length is 0:
- *   founding has no roll and no previous rack. Any other pointer, head and digest among them, is not null.
+ *   founding has no roll and no previous rack. Any other pointer, head, digest, tail and entry among them, is not null.
  * - The memory is there, for as many bytes or rows as the length says; what is not const here can be written. A call
  *   that leaves the head writes no byte of it, and one that leaves the rows, or that refuses, writes none of these.
  * - Rows are aligned as C aligns a mahqurith_row: to eight bytes.
- * - What is written overlaps nothing: head, rows, area, output and digest neither one another nor a message. Messages may
- *   overlap each other.
+ * - What is written overlaps nothing: head, rows, area, output and digest neither one another nor a message, tail not entry.
+ *   Messages may overlap each other.
  * - One call at a time on a record or a store: while a call runs, no other call and nothing else reads or writes its head, rows or
  *   area or writes its messages, in whatever thread. Calls on different records may run side by side, and so may calls
  *   that take head and rows const on one record.
@@ -46,7 +46,7 @@ extern "C" {
  * are not to be mixed.
  */
 #define MAHQURITH_VERSION_MAJOR 1
-#define MAHQURITH_VERSION_MINOR 3
+#define MAHQURITH_VERSION_MINOR 4
 
 /*
  * Answers: 0, or the refusal's number; mahqurith_meaning says what each means. Tests are made in the order that each call
@@ -267,6 +267,28 @@ mahqurith_answer mahqurith_bytes_to_check(const mahqurith_head *head, const mahq
                                           const uint8_t *own, size_t own_length, const uint8_t *bundle,
                                           size_t bundle_length, uint8_t *area, size_t area_length);
 
+/*
+ * The entries of a bundle, by list and number as Bytes to check takes them, for whoever sets the marks. Both calls take any
+ * bytes as a bundle. They refuse with 22 where the list has no such entry: the bundle is longer than MAHQURITH_BUNDLE, there is
+ * no such list, its count is not above the number, or the entry does not end within the bundle. Whether the rest keeps the
+ * layout, Bytes to check and Activate tell.
+ */
+
+/* An entry's position in the rack of its list; 0 with a refusal. */
+typedef struct {
+    uint32_t number;
+    uint8_t position;
+} mahqurith_position;
+
+/* The position of an entry: of an old one in the previous rack, of a new one in the own rack. Refuses: 22. */
+mahqurith_position mahqurith_bundle_position(const uint8_t *bundle, size_t bundle_length, uint8_t list, uint64_t number);
+
+/*
+ * Sets the marks byte of an entry, and no other byte. Refuses: 22, also where a bit of the marks is set that is neither
+ * MAHQURITH_ATTESTED nor MAHQURITH_VALID. The bundle stays then.
+ */
+uint32_t mahqurith_bundle_mark(uint8_t *bundle, size_t bundle_length, uint8_t list, uint64_t number, uint8_t marks);
+
 /* What a desk asks. */
 typedef struct {
     uint8_t identity[MAHQURITH_DIGEST];  /* the identity that the desk has retained */
@@ -314,6 +336,9 @@ typedef struct {
 
 mahqurith_rack_read mahqurith_read_rack(const uint8_t *bytes, size_t length);
 mahqurith_written mahqurith_write_rack(mahqurith_rack rack, uint8_t *area, size_t area_length);
+
+/* The digest of a rack. Area: MAHQURITH_DIGEST. Refuses: 6, 1. */
+mahqurith_written mahqurith_rack_digest(const uint8_t *rack, size_t rack_length, uint8_t *area, size_t area_length);
 
 /* Rows with labels strictly rising; those past the count are zero. */
 typedef struct {
@@ -396,6 +421,9 @@ mahqurith_stored mahqurith_store_read(const uint8_t *area, size_t area_length, m
 
 /* SHA-256 of FIPS 180-4, for messages of 0 to MAHQURITH_HASH_INPUT bytes. Refuses: 25; the digest stays then. */
 uint32_t mahqurith_sha256(const uint8_t *message, size_t length, uint8_t digest[MAHQURITH_DIGEST]);
+
+/* The tail of a ledger becomes the one after an entry, which is given by its digest. Refuses nothing. */
+void mahqurith_tail_after(uint8_t tail[MAHQURITH_DIGEST], const uint8_t entry[MAHQURITH_DIGEST]);
 
 #ifdef __cplusplus
 }

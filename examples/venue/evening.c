@@ -1,11 +1,9 @@
-/* The story: a matinee, an evening with a handover in the interval, and seven things that must not work. */
+/* The story: a matinee, a power failure, an evening with a handover in the interval, and seven things that must not work. */
 #include "venue.h"
 
-static rack a, b;
 static desk console;
-static store server;
-static pile matinee, tonight, finals;
-static handover bundle;
+static list lists[RACKS];
+static pile matinee, tonight, finals, bundle;
 
 void must(bool holds, const char *what) {
     if (holds)
@@ -20,87 +18,125 @@ static void refused(uint32_t number, uint32_t expected, const char *meaning) {
     must(number == expected, "this refusal is the expected one");
 }
 
-static void wake(rack *r, char name) {
-    for (size_t i = 0; i < BOXES; i++)
-        box_wake(&r->boxes[i], (char[]){name, (char)('1' + i), 0});
-    messenger_list(r);
+static void persons(int position) {
+    for (int i = 0; i < HOUSE; i++)
+        turn(i, position);
 }
 
-static void record(rack *r, const char *cue) {
+/* A person compares the messenger's list with the keys on the boxes. */
+static void wake(int rack) {
+    list *l = &lists[rack];
+    pile p = errand(WAKE, rack, 0, &(request){0});
+    const reply *r = &p.voices[0].reply;
+    must(p.count == 1 && r->length == sizeof l->bytes + sizeof l->evidence, "the messenger brings a list");
+    l->length = sizeof l->bytes;
+    memcpy(l->bytes, r->bytes, sizeof l->bytes);
+    memcpy(l->evidence, r->bytes + sizeof l->bytes, sizeof l->evidence);
+    mahqurith_rack named = mahqurith_read_rack(BYTES(*l)).rack;
+    for (int member = 0; member < BOXES; member++) {
+        uint8_t key[MAHQURITH_KEY];
+        bool listed = false;
+        read_key(rack, member, key);
+        for (size_t i = 0; i < named.count; i++)
+            listed |= memcmp(named.keys[i], key, MAHQURITH_KEY) == 0;
+        must(listed, "the list has the keys of the boxes");
+    }
+}
+
+static void record_cue(int rack, const char *cue) {
     request q = desk_ask(&console, MAHQURITH_APPEND);
     digest_text(cue, q.asked.entry);
     q.asked.expected = console.seen.height + 1;
-    messenger_keep(&server, q.asked.label, q.asked.expected, cue);
-    pile p = messenger_carry(r, &q);
+    q.roll = (span){strlen(cue), (uint8_t *)cue};
+    errand(KEEP, rack, 0, &q);
+    q.roll = (span){0};
+    pile p = errand(CARRY, rack, 0, &q);
     mahqurith_finding found = desk_judge(&console, &console.list, &p);
     must(desk_keeps(&console, &q, &found), "the desk accepts a cue");
     printf("%s. %zu of 5 boxes sign: recorded.\n", cue, p.count);
 }
 
 /* The replies to a reading with a new nonce. */
-static pile ask(rack *r) {
+static pile ask(int rack) {
     request q = desk_ask(&console, MAHQURITH_READ);
-    return messenger_carry(r, &q);
+    return errand(CARRY, rack, 0, &q);
 }
 
-static pile open_ledger(rack *r) {
-    pile p = ask(r);
+static pile open_ledger(int rack) {
+    pile p = ask(rack);
     mahqurith_finding found = desk_judge(&console, &console.list, &p);
     const uint8_t *tail = found.tail;
-    must(desk_opens(&console, &found, &server), "the desk opens the ledger");
+    must(desk_opens(&console, &found), "the desk opens the ledger");
     printf("The desk opens the ledger: %zu of 5 boxes reply and agree on %d cues, newest hash %02x%02x%02x%02x.\n"
            "The texts on the server fit this hash.\n", p.count, (int)found.height, tail[0], tail[1], tail[2], tail[3]);
     return p;
 }
 
 static void found_rack(void) {
-    puts("\nTHE RACK IS FOUNDED\nFive boxes wake, each with a key of its own: A1 to A5, together rack A.");
-    wake(&a, 'A');
-    request q = {.kind = MAHQURITH_INITIALISE, .list = a.list};
-    must(messenger_carry(&a, &q).count == BOXES, "five boxes found the rack");
-    memcpy(console.question.identity, a.boxes[0].head.identity, MAHQURITH_DIGEST);
+    puts("\nTHE RACK IS FOUNDED\nFive boxes wake, a person at each, and make a key of their own: A1 to A5, together rack A.");
+    persons(SOMEBODY);
+    wake(A);
+    request q = {.call = ASK_INITIALISE, .rack = {lists[A].length, lists[A].bytes}};
+    must(errand(CARRY, A, 0, &q).count == BOXES, "five boxes found the rack");
+    persons(NOBODY);
+    mahqurith_rack_digest(BYTES(lists[A]), console.question.identity, MAHQURITH_DIGEST);
     memcpy(console.question.label, "tour, cue edits", MAHQURITH_LABEL);
-    console.list = a.list;
+    console.list = lists[A];
     q = desk_ask(&console, MAHQURITH_NEW);
-    a.boxes[3].silent = true;
-    pile p = messenger_carry(&a, &q);
-    a.boxes[3].silent = false;
-    must(desk_judge(&console, &a.list, &p).number == MAHQURITH_ACCEPTED, "the desk accepts a new ledger");
+    pull(box_of(A, 3));
+    pile p = errand(CARRY, A, 0, &q);
+    plug(box_of(A, 3));
+    must(desk_judge(&console, &lists[A], &p).number == MAHQURITH_ACCEPTED, "the desk accepts a new ledger");
     puts("The desk notes the rack's identity, for the whole tour, and has a ledger made for the cue edits.\n"
-         "Box A4 is still in its case and misses that: it has no such ledger, and signs no cue of it.");
+         "Box A4 is without power and misses that: it has no such ledger, and signs no cue of it.");
 }
 
 static void before_the_interval(void) {
     puts("\nTHE MATINEE");
-    record(&a, "Cue 1: house lights to half, 5 seconds");
-    record(&a, "Cue 2: moonlight from stage left at 40 percent");
-    matinee = open_ledger(&a);
+    record_cue(A, "Cue 1: house lights to half, 5 seconds");
+    record_cue(A, "Cue 2: moonlight from stage left at 40 percent");
+    matinee = open_ledger(A);
+    puts("The power fails in the whole house. Every box starts again, with the record that it had stored.");
+    for (int i = 0; i < HOUSE; i++)
+        pull(i);
+    for (int i = 0; i < HOUSE; i++)
+        plug(i);
     puts("\nTHE EVENING, FIRST HALF");
-    record(&a, "Cue 3: moonlight at 55 percent, as 40 was too dark");
+    record_cue(A, "Cue 3: moonlight at 55 percent, as 40 was too dark");
     puts("Box A5 is out of reach for one cue.");
-    a.boxes[4].silent = true;
-    record(&a, "Cue 4: blackout at the end of the act");
-    a.boxes[4].silent = false;
+    pull(box_of(A, 4));
+    record_cue(A, "Cue 4: blackout at the end of the act");
+    plug(box_of(A, 4));
+}
+
+/* What a box of rack B answers to a bundle. */
+static uint32_t answer_to_bundle(int member, pile *brought) {
+    reply *h = &brought->voices[0].reply, *proofs = &brought->voices[1].reply;
+    request q = {.call = ASK_ACTIVATE, .previous = {lists[A].length, lists[A].bytes}, .rack = {lists[B].length, lists[B].bytes},
+                 .bundle = {h->length, h->bytes}, .proofs = {proofs->length, proofs->bytes}};
+    pile p = errand(PASS, B, member, &q);
+    must(p.count == 1, "the box replies");
+    return p.voices[0].reply.number;
 }
 
 static void interval(void) {
     puts("\nTHE INTERVAL\nBox A3 dies. The four others and a spare each make a new key, with an empty record: B1 to B5, together rack B.");
-    a.boxes[2].silent = true;
-    wake(&b, 'B');
-    finals = messenger_carry(&a, &(request){.kind = MAHQURITH_FINALISE, .list = b.list});
+    pull(box_of(A, 2));
+    persons(SOMEBODY);
+    wake(B);
+    request q = {0};
+    memcpy(q.asked.identity, console.question.identity, MAHQURITH_DIGEST);
+    finals = errand(HAND_OVER, A, 0, &q);
+    persons(NOBODY);
     must(finals.count == 4, "four boxes finalise");
     puts("Boxes A1, A2, A4 and A5 sign what they have and that rack B follows. Then their chips erase the keys: rack A is retired.");
-    request q = {.kind = MAHQURITH_INITIALISE, .roll = messenger_roll(&finals), .previous = a.list, .list = b.list};
-    memcpy(q.asked.identity, console.question.identity, MAHQURITH_DIGEST);
-    pile initials = messenger_carry(&b, &q);
-    must(initials.count == BOXES, "five boxes take over");
-    bundle = messenger_bundle(&a, &b, &finals, &initials, &server);
-    for (size_t i = 0; i < 4; i++)
-        must(box_activate(&b.boxes[i], &bundle) == MAHQURITH_ACCEPTED, "a box is activated");
-    b.boxes[4].silent = true;
-    pile first = ask(&b);
-    mahqurith_finding found = desk_judge(&console, &b.list, &first);
-    must(desk_takes(&console, &b.list, &found), "the desk takes the new rack");
+    bundle = errand(BUNDLE, A, 0, &q);
+    for (int member = 0; member < 4; member++)
+        must(answer_to_bundle(member, &bundle) == MAHQURITH_ACCEPTED, "a box is activated");
+    pull(box_of(B, 4));
+    pile first = ask(B);
+    mahqurith_finding found = desk_judge(&console, &lists[B], &first);
+    must(desk_takes(&console, &lists[B], &found), "the desk takes the new rack");
     puts("Boxes B1 to B5 take the newest list over and sign that they did, but do not use it yet.\n"
          "The messenger brings each of them a bundle: the signatures of both racks, the cue that box A5 missed,\n"
          "and all four cues for box A4, whose list lacks the ledger. Other lists have it, so that it stops nothing.\n"
@@ -109,69 +145,109 @@ static void interval(void) {
 }
 
 static void asked_of_rack_a(void) {
-    uint8_t signature[SIGNATURE];
     puts("1. One box alone. Box A3 is mended and knows of no handover: with the desk's new nonce it signs the list without cue 5.");
-    a.boxes[2].silent = false;
-    pile p = ask(&a);
+    plug(box_of(A, 2));
+    pile p = ask(A);
     must(p.count == 1, "one box of rack A still signs");
-    refused(desk_judge(&console, &a.list, &p).number, MAHQURITH_TOO_FEW, "one box is not more than half of a rack of five");
+    refused(desk_judge(&console, &lists[A], &p).number, MAHQURITH_TOO_FEW, "one box is not more than half of a rack of five");
     puts("2. A retired rack asked again. The messenger asks box A1 for the list.");
     request q = desk_ask(&console, MAHQURITH_READ);
-    refused(box_answer(&a.boxes[0], &q).answer.number, MAHQURITH_NOT_ACTIVE, "the box is not active, since it is retired");
-    must(!chip_sign(&a.boxes[0].chip, &matinee.replies[0].statement, signature), "an erased key signs nothing");
+    p = errand(PASS, A, 0, &q);
+    refused(p.voices[0].reply.number, MAHQURITH_NOT_ACTIVE, "the box is not active, since it is retired");
+    must(!has_key(box_of(A, 0), A), "the key is erased");
     puts("   Its chip could not sign either: the key is erased.");
 }
 
 static void brought_to_the_desk(void) {
     puts("3. The list of the show before. The messenger brings the matinee's reading, signed by four boxes of rack A.");
-    pile p = ask(&b);
-    refused(desk_judge(&console, &b.list, &matinee).number, MAHQURITH_STATEMENT_NOT_ASKED, "it speaks of rack A, and the desk asks rack B");
+    pile p = ask(B);
+    refused(desk_judge(&console, &lists[B], &matinee).number, MAHQURITH_STATEMENT_NOT_ASKED, "it speaks of rack A, and the desk asks rack B");
     puts("   The messenger says that rack A is the one to ask.");
-    refused(desk_judge(&console, &a.list, &matinee).number, MAHQURITH_NONCE_DIFFERS, "it has the nonce of the matinee");
+    refused(desk_judge(&console, &lists[A], &matinee).number, MAHQURITH_NONCE_DIFFERS, "it has the nonce of the matinee");
     puts("4. A replayed nonce. The messenger brings tonight's reading once more, signed by three boxes of rack B.");
-    refused(desk_judge(&console, &b.list, &tonight).number, MAHQURITH_NONCE_DIFFERS, "it has the nonce of an earlier question");
+    refused(desk_judge(&console, &lists[B], &tonight).number, MAHQURITH_NONCE_DIFFERS, "it has the nonce of an earlier question");
     puts("5. A signature listed twice. The messenger brings new signatures of two boxes, one of them twice, to make three.");
-    p.replies[2] = p.replies[1];
-    refused(desk_judge(&console, &b.list, &p).number, MAHQURITH_LIST_BROKEN, "a list names each box once at most");
+    p.voices[2] = p.voices[1];
+    refused(desk_judge(&console, &lists[B], &p).number, MAHQURITH_LIST_BROKEN, "a list names each box once at most");
+}
+
+/* Which of what the boxes left is a member's. */
+static size_t final_of(int member) {
+    for (size_t i = 0; i < finals.count; i++)
+        if (finals.voices[i].member == member)
+            return i;
+    must(false, "a box has finalised");
+    return 0;
+}
+
+/* Where an old entry begins in the bundle, or the new ones with their count. */
+static size_t entry_of(size_t old) {
+    const uint8_t *bytes = bundle.voices[0].reply.bytes;
+    size_t place = 1;
+    while (old-- > 0)
+        place += 3 + (size_t)MAHQURITH_BLOCK * bytes[place + 2];
+    return place;
+}
+
+/* Where the digests that an old list lacks begin in the bundle. */
+static size_t missing_of(size_t old) {
+    const uint8_t *bytes = bundle.voices[0].reply.bytes;
+    size_t place = entry_of(bytes[0]);
+    place += 1 + 2 * (size_t)bytes[place];
+    while (old-- > 0)
+        place += 2 + (size_t)MAHQURITH_DIGEST * bytes[place + 1];
+    return place + 2;
 }
 
 static void forged_bundle(void) {
-    handover forged = bundle;
+    static pile forged;
+    size_t a2 = final_of(1), a5 = final_of(4);
+    plug(box_of(B, 4));
+    forged = bundle;
     puts("6. A forged bundle. Box B5 still waits. The messenger puts box A5's older list in the place of what box A2 signed.");
-    memcpy(forged.bundle.bytes + 4 + MAHQURITH_BLOCK + 3, finals.replies[3].roll.bytes, MAHQURITH_BLOCK); /* the second entry's roll */
-    refused(box_activate(&b.boxes[4], &forged), MAHQURITH_SIGNATURE_NOT_VALID, "box A2's signature is not valid for this list");
+    memcpy(forged.voices[0].reply.bytes + entry_of(a2) + 3,
+           finals.voices[a5].reply.bytes + MAHQURITH_HANDOVER, MAHQURITH_BLOCK);
+    refused(answer_to_bundle(4, &forged), MAHQURITH_SIGNATURE_NOT_VALID, "box A2's signature is not valid for this list");
     puts("   The messenger puts a cue of its own in the place of the one that box A5 missed.");
     forged = bundle;
-    forged.bundle.bytes[forged.bundle.length - 1] ^= 1;
-    refused(box_activate(&b.boxes[4], &forged), MAHQURITH_NOT_DERIVED, "box A5's list and this cue do not give the newest list");
-    must(box_activate(&b.boxes[4], &bundle) == MAHQURITH_ACCEPTED, "the true bundle is accepted");
+    forged.voices[0].reply.bytes[missing_of(a5)] ^= 1;
+    refused(answer_to_bundle(4, &forged), MAHQURITH_NOT_DERIVED, "box A5's list and this cue do not give the newest list");
+    must(answer_to_bundle(4, &bundle) == MAHQURITH_ACCEPTED, "the true bundle is accepted");
     puts("   With the true bundle box B5 becomes active.");
 }
 
 static void two_heirs(void) {
-    request q = {.kind = MAHQURITH_FINALISE};
+    uint8_t alone[1 + MAHQURITH_KEY] = {1};
+    const reply *first = &finals.voices[final_of(0)].reply;
     puts("7. Two heirs. The messenger asks box A1 to finalise again, and names box A3 alone as the next rack.");
-    add(&q.list, (uint8_t[]){1}, 1);
-    add(&q.list, a.boxes[2].chip.key, MAHQURITH_KEY);
-    reply again = box_answer(&a.boxes[0], &q);
-    must(again.answer.number == MAHQURITH_ACCEPTED && again.answer.repeat && !again.is_signed, "a second finalise is a repeat");
-    must(memcmp(&again.statement, &finals.replies[0].statement, sizeof(message)) == 0, "a second finalise gives the first statement");
-    must(memcmp(again.signature, finals.replies[0].signature, SIGNATURE) == 0, "and the first signature, which the box has stored");
+    read_key(A, 2, alone + 1);
+    request q = {.call = ASK_FINALISE, .rack = {sizeof alone, alone}};
+    refused(errand(PASS, A, 0, &q).voices[0].reply.number, NO_PERSON, "nobody is at the box");
+    puts("   A person is at the box, and turns its key switch.");
+    turn(box_of(A, 0), SOMEBODY);
+    pile p = errand(PASS, A, 0, &q);
+    const reply *again = &p.voices[0].reply;
+    must(p.count == 1 && again->number == MAHQURITH_ACCEPTED, "a second finalise is a repeat");
+    must(again->length == first->length && memcmp(again->bytes, first->bytes, first->length) == 0, "a second finalise gives the first statement");
+    must(memcmp(again->signatures[0], first->signatures[0], SIGNATURE) == 0, "and the first signature, which the box has stored");
     puts("   Not refused, and of no use: the box repeats its first statement, which names rack B, and signs nothing.");
 }
 
-int main(void) {
+int main(int count, char **words) {
+    must(count == 4, "use: evening BOX MESSENGER FOLDER");
+    setvbuf(stdout, NULL, _IOLBF, 0);
+    house_opens(words[1], words[2], words[3], console.root);
     puts("Boxes keep the newest hash of a ledger of cue edits, and sign it. The desk believes more than half of a rack of boxes.\n"
          "In each question it puts a new number, the nonce, which must come back signed. The messenger between them,\n"
-         "the venue's server, keeps the texts of the cues and is trusted with nothing.");
+         "the venue's server, keeps the texts of the cues and is trusted with nothing. Each of them is a process of its own.");
     found_rack();
     before_the_interval();
     interval();
     puts("\nTHE EVENING, SECOND HALF");
-    record(&b, "Cue 5: sunrise, 90 seconds");
+    record_cue(B, "Cue 5: sunrise, 90 seconds");
     puts("Box B4 stops replying.");
-    b.boxes[3].silent = true;
-    tonight = open_ledger(&b);
+    pull(box_of(B, 3));
+    tonight = open_ledger(B);
     puts("\nWHAT MUST NOT WORK");
     asked_of_rack_a();
     brought_to_the_desk();

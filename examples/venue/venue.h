@@ -1,80 +1,61 @@
-/* What the parts of the evening know of each other: chips, boxes, the messenger, the desk. */
-#include <mahqurith.h>
-#include <openssl/evp.h>
+/* What the programs of the evening know of each other. Each box is a process (../box), the messenger is one, and the evening is one: the house and its desk. */
+#ifndef VENUE_H
+#define VENUE_H
+
+#include "../box/chip.h"
+#include "../box/wire.h"
+
 #include <stdio.h>
 #include <stdlib.h>
-#include <string.h>
 
-/* How a record and a message stand among the arguments of the library's calls. */
-#define RECORD(b) &(b)->head, (b)->rows, MAHQURITH_ROWS
-#define BYTES(m) (m).bytes, (m).length
+enum { BOXES = 5 /* of a rack */, HOUSE = 6 /* boxes of the house: one is a spare */, LEAST = 3 /* of a rack that the desk takes without asking a person */ };
+enum { A, B, RACKS };
 
-enum { BOXES = 5, LEAST = 3 /* of a rack that the desk takes without asking a person */, SIGNATURE = 64, LONGEST = 4096 /* of the evening's messages */ };
+/* Rack A is in the first slots of the first five boxes; rack B in the second slots, with the spare in the place of the third box. */
+static inline int box_of(int rack, int member) { return rack == B && member == 2 ? HOUSE - 1 : member; }
 
-typedef struct { size_t length; uint8_t bytes[LONGEST]; } message;
-typedef struct { EVP_PKEY *secret; /* null once it is erased */ uint8_t key[MAHQURITH_KEY]; } chip;
+/* A rack as the messenger brings it: its bytes, and the evidence of each of its keys. */
+typedef struct { size_t length; uint8_t bytes[1 + BOXES * MAHQURITH_KEY], evidence[BOXES][EVIDENCE]; } list;
 
+/* A reply, of which member of the rack and at which position in its list, as the messenger says. */
+typedef struct { uint8_t member, position; reply reply; } voice;
+typedef struct { size_t count; voice voices[BOXES]; } pile;
+
+/* What the messenger is asked. It answers with a pile. */
+enum {
+    WAKE,      /* the boxes of a rack: the list, in one reply */
+    CARRY,     /* a request to all boxes of a rack: what they accepted */
+    PASS,      /* a request to one box: its answer */
+    KEEP,      /* a text, which is the request's roll, at a label and height */
+    LOOK,      /* for the block of a label and height: one reply, or none */
+    HAND_OVER, /* from rack A to rack B: what A's boxes said at last */
+    BUNDLE     /* of that handover: the bundle and the proofs, in two replies */
+};
+
+void must(bool holds, const char *what);
+
+/* house.c */
+void house_opens(const char *box, const char *messenger, const char *folder, uint8_t root[MAHQURITH_KEY]);
+void pull(int box);             /* the plug */
+void plug(int box);             /* in again; returns when the box answers */
+void turn(int box, int person); /* the key switch of a box */
+bool has_key(int box, int slot);
+void read_key(int rack, int member, uint8_t key[MAHQURITH_KEY]); /* off the box, by a person */
+pile errand(uint8_t kind, int rack, int member, const request *q);
+
+/* desk.c */
 typedef struct {
-    bool silent; /* dead, or out of reach */
-    chip chip;
-    mahqurith_head head; /* head and rows are kept over loss of power: what is written here is stored */
-    mahqurith_row rows[MAHQURITH_ROWS];
-    uint8_t farewell[SIGNATURE]; /* on its finalise statement, stored before the key is erased */
-} box;
-
-/* A rack's list and its boxes, in the order of the list. */
-typedef struct { message list; box boxes[BOXES]; } rack;
-
-/* What is carried to a box: the kind of statement that it is to sign, and what the call of this kind takes. */
-typedef struct {
-    uint8_t kind;
-    mahqurith_asked asked;
-    message roll, previous, list; /* the list is the own rack's for Initialise, the next one's for Finalise */
-} request;
-
-typedef struct {
-    mahqurith_answer answer;
-    uint8_t position; /* of the box in its rack, as the messenger says */
-    message statement, roll;
-    bool is_signed;
-    uint8_t signature[SIGNATURE];
-} reply;
-
-typedef struct { size_t count; reply replies[BOXES]; } pile;
-
-/* What is brought to a box that is prepared; the piles have the signatures of the bundle's two lists. */
-typedef struct { message previous, own, bundle; pile lists[2]; } handover;
-
-/* The cue edits themselves, on the messenger's server: the library's cabinet store. */
-typedef struct { uint8_t area[8 * MAHQURITH_BLOCK]; } store;
-
-typedef struct {
+    uint8_t root[MAHQURITH_KEY]; /* the maker's, put there by a person */
     mahqurith_question question; /* the newest; its identity is kept for the whole tour */
-    message list;                /* of the rack that the desk asks now */
+    list list;                   /* of the rack that the desk asks now */
     mahqurith_finding seen;      /* height and tail in the newest verdict that the desk accepted */
 } desk;
 
-void must(bool holds, const char *what);
-void add(message *m, const uint8_t *bytes, size_t length);
 void digest_text(const char *text, uint8_t digest[MAHQURITH_DIGEST]);
-void chip_make(chip *c, const char *name);
-bool chip_sign(const chip *c, const message *m, uint8_t signature[SIGNATURE]);
-void chip_erase(chip *c);
-uint8_t chip_marks(const uint8_t key[MAHQURITH_KEY], const message *m, const uint8_t signature[SIGNATURE]);
-
-void box_wake(box *b, const char *key_name);
-reply box_answer(box *b, const request *q);
-uint32_t box_activate(box *b, const handover *brought);
-
-void messenger_list(rack *r);
-pile messenger_carry(rack *r, const request *q);
-void messenger_keep(store *s, const uint8_t label[MAHQURITH_LABEL], uint64_t height, const char *cue);
-bool messenger_look(const store *s, const uint8_t label[MAHQURITH_LABEL], uint64_t height, uint8_t block[MAHQURITH_BLOCK]);
-message messenger_roll(const pile *finals);
-handover messenger_bundle(const rack *old, const rack *new, const pile *finals, const pile *initials, const store *s);
-
 request desk_ask(desk *d, uint8_t kind);
-mahqurith_finding desk_judge(const desk *d, const message *list, const pile *p);
+mahqurith_finding desk_judge(const desk *d, const list *rack, const pile *p);
 bool desk_keeps(desk *d, const request *q, const mahqurith_finding *found);
-bool desk_opens(desk *d, const mahqurith_finding *found, const store *s);
-bool desk_takes(desk *d, const message *list, const mahqurith_finding *found);
+bool desk_opens(desk *d, const mahqurith_finding *found);
+bool desk_takes(desk *d, const list *rack, const mahqurith_finding *found);
+
+#endif

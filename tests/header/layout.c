@@ -132,6 +132,8 @@ static void test_ledger(void)
     memcpy(old_and_entry + MAHQURITH_DIGEST, asked.entry, MAHQURITH_DIGEST);
     digest_of(1, old_and_entry, sizeof old_and_entry, tail);
     expect(a.rows[0].height == 1 && same(a.rows[0].tail, tail, sizeof tail), "the row after an append");
+    mahqurith_tail_after(old_and_entry, asked.entry);
+    expect(same(old_and_entry, tail, sizeof tail) && all(old_and_entry + MAHQURITH_DIGEST, MAHQURITH_DIGEST, 8), "the tail after an entry");
     mahqurith_answer again = mahqurith_append(&a.head, a.rows, MAHQURITH_ROWS, asked, area, sizeof area);
     expect(again.number == MAHQURITH_OUT_OF_ORDER && again.height == 1 && again.written == 0, "out of order");
     guarded(&a);
@@ -226,6 +228,15 @@ static void test_rack(void)
     mahqurith_rack_read read = mahqurith_read_rack(written, sizeof written);
     expect(read.number == 0 && read.rack.count == MAHQURITH_KEYS && same(read.rack.keys, rack.keys, sizeof rack.keys), "a rack read back");
     expect(mahqurith_read_rack(written, sizeof written - 1).number == MAHQURITH_RACK_BROKEN, "a broken rack");
+    uint8_t out[MAHQURITH_DIGEST + 1], digest[MAHQURITH_DIGEST];
+    memset(out, GUARD, sizeof out);
+    digest_of(3, written, sizeof written, digest);
+    expect(mahqurith_rack_digest(written, sizeof written - 1, out, 0).number == MAHQURITH_RACK_BROKEN
+               && mahqurith_rack_digest(written, sizeof written, out, MAHQURITH_DIGEST - 1).number == MAHQURITH_AREA_TOO_SHORT
+               && all(out, sizeof out, GUARD), "no digest");
+    mahqurith_written given = mahqurith_rack_digest(written, sizeof written, out, sizeof out);
+    expect(given.number == 0 && given.written == MAHQURITH_DIGEST && same(out, digest, sizeof digest) && out[MAHQURITH_DIGEST] == GUARD,
+           "the digest of a rack");
 }
 
 /* One old entry with its block, one new entry, no digests for the one row. */
@@ -237,6 +248,42 @@ static size_t write_bundle(const uint8_t *block, uint8_t *bundle)
     memcpy(bundle + sizeof before, block, MAHQURITH_BLOCK);
     memcpy(bundle + sizeof before + MAHQURITH_BLOCK, after, sizeof after);
     return sizeof before + MAHQURITH_BLOCK + sizeof after;
+}
+
+/* A bundle of three old entries, of one, two and no blocks, and two new ones. */
+static void test_entries(void)
+{
+    static uint8_t bundle[1 + 3 * (3 + MAHQURITH_BLOCK) + 5], before[sizeof bundle];
+    const size_t length = sizeof bundle, olds[] = {1, 4 + MAHQURITH_BLOCK, 7 + 3 * MAHQURITH_BLOCK}, news = 10 + 3 * MAHQURITH_BLOCK;
+    memset(bundle, GUARD, length);
+    bundle[0] = 3, bundle[news] = 2;
+    for (uint8_t i = 0; i < 3; i++)
+        bundle[olds[i]] = (uint8_t)(4 + i), bundle[olds[i] + 2] = i == 2 ? 0 : (uint8_t)(i + 1);
+    bundle[news + 1] = 8, bundle[news + 3] = 9;
+    for (uint8_t entry = 0; entry < 5; entry++) {
+        const uint8_t list = entry < 3 ? MAHQURITH_OLD : MAHQURITH_OF_NEW, number = entry < 3 ? entry : (uint8_t)(entry - 3);
+        const size_t place = entry < 3 ? olds[entry] : news + 1 + 2 * (size_t)number;
+        mahqurith_position found = mahqurith_bundle_position(bundle, length, list, number);
+        expect(found.number == 0 && found.position == bundle[place], "an entry's position");
+        memcpy(before, bundle, length);
+        expect(mahqurith_bundle_mark(bundle, length, list, number, 4) == MAHQURITH_LIST_BROKEN && same(before, bundle, length), "marks with a third bit");
+        expect(mahqurith_bundle_mark(bundle, length, list, number, MAHQURITH_VALID) == 0, "marks set");
+        before[place + 1] = MAHQURITH_VALID;
+        expect(same(before, bundle, length), "a byte beside the marks was touched");
+    }
+    const struct { size_t length; uint8_t list; uint64_t number; } none[] = {
+        {length, 0, 3}, {length, 1, 2}, {length, 2, 0}, {length, 0, UINT64_MAX}, {length, 1, UINT64_MAX}, {0, 0, 0}, {0, 1, 0}, {1, 0, 0},
+        {3 + MAHQURITH_BLOCK, 0, 0}, {news, 1, 0}, {news + 2, 1, 0}, {news + 4, 1, 1}, {MAHQURITH_BUNDLE + 1, 0, 0}};
+    memset(message, 0, sizeof message);
+    memcpy(message, bundle, length);
+    memcpy(before, bundle, length);
+    for (size_t i = 0; i < sizeof none / sizeof none[0]; i++) {
+        mahqurith_position found = mahqurith_bundle_position(message, none[i].length, none[i].list, none[i].number);
+        expect(found.number == MAHQURITH_LIST_BROKEN && found.position == 0, "the position of no entry");
+        expect(mahqurith_bundle_mark(message, none[i].length, none[i].list, none[i].number, 0) == MAHQURITH_LIST_BROKEN
+                   && same(message, before, length), "marks of no entry");
+    }
+    expect(mahqurith_bundle_position(message, MAHQURITH_BUNDLE, 0, 0).number == 0, "the longest bundle");
 }
 
 /* The old entry's marks are the third byte of the bundle. */
@@ -328,6 +375,7 @@ int main(void)
     test_reading();
     test_verdict();
     test_both();
+    test_entries();
     test_finalise();
     memcpy(block, area + MAHQURITH_HANDOVER, sizeof block);
     test_roll(block);

@@ -190,10 +190,21 @@ static void layouts_of(const uint8_t *none, uint8_t *area)
     expect(no_statement.number == MAHQURITH_STATEMENT_NOT_ASKED && no_statement.statement.kind == 0, "a statement of no bytes");
     expect(mahqurith_write_rack(rack.rack, area, 0).number == MAHQURITH_AREA_TOO_SHORT, "a rack to no area");
     expect(mahqurith_write_rack(no_rack.rack, area, 0).number == MAHQURITH_RACK_BROKEN, "no rack to no area");
+    expect(mahqurith_rack_digest(rack_a, sizeof rack_a, area, 0).number == MAHQURITH_AREA_TOO_SHORT, "a rack's digest to no area");
+    expect(mahqurith_rack_digest(none, 0, area, 0).number == MAHQURITH_RACK_BROKEN, "the digest of no rack to no area");
     expect(mahqurith_write_roll(rows.roll, area, 0).number == MAHQURITH_AREA_TOO_SHORT, "a roll to no area");
     expect(mahqurith_write_roll(no_rows.roll, area, 0).number == MAHQURITH_AREA_TOO_SHORT, "an empty roll to no area");
     expect(mahqurith_write_statement(statement.statement, area, 0).number == MAHQURITH_AREA_TOO_SHORT, "a statement to no area");
     expect(mahqurith_write_statement(no_statement.statement, area, 0).number == MAHQURITH_STATEMENT_NOT_ASKED, "no statement to no area");
+}
+
+static void entries_of(const uint8_t *none, uint8_t *area)
+{
+    for (uint8_t list = MAHQURITH_OLD; list <= MAHQURITH_OF_NEW; list++) {
+        mahqurith_position found = mahqurith_bundle_position(none, 0, list, 0);
+        expect(found.number == MAHQURITH_LIST_BROKEN && found.position == 0, "an entry of no bundle");
+        expect(mahqurith_bundle_mark(area, 0, list, 0, 0) == MAHQURITH_LIST_BROKEN, "marks in no bundle");
+    }
 }
 
 static void hash_of(const uint8_t *none)
@@ -262,12 +273,14 @@ int main(void)
     verdicts_of(place);
     layouts_of(NULL, NULL);
     layouts_of(place, place);
+    entries_of(NULL, NULL);
+    entries_of(place, place);
     hash_of(NULL);
     hash_of(place);
     store_of(NULL, NULL);
     store_of(place, place);
     for (size_t i = 0; i < sizeof place; i++)
         expect(place[i] == GUARD, "something was written where the length is 0");
-    printf("null: %d calls of the keeper, the verdict, the layouts, the hash and the store take null where a length is 0\n", tried);
+    printf("null: %d calls of the keeper, the verdict, the layouts, a bundle's entries, the hash and the store take null where a length is 0\n", tried);
     return 0;
 }

@@ -8,6 +8,12 @@ const RECEIPT: usize = 121;
 const READING: usize = 137;
 const HANDOVER: usize = 129;
 const FINALISED: usize = 3713;
+const DIGESTS: usize = 5;
+const HEAD: usize = 2 + 32 * DIGESTS;
+const ROW: usize = 16 + 32 + 8;
+
+/// The bytes of a record: 162 of head, 3,528 of rows.
+pub const RECORD: usize = HEAD + ROWS * ROW;
 
 /// A keeper's record: head and 63 rows. It is durable before the chip signs what a call gave: `docs/INTEGRATION.md`, "For the firmware of a box".
 ///
@@ -79,6 +85,52 @@ impl Keeper {
     /// The rows, to be stored.
     pub fn rows(&self) -> &[Row; ROWS] {
         &self.rows
+    }
+
+    /// The record as bytes, to be stored: status, count, key, identity, the digests of own, previous and next rack, then the 63 rows, each label 16, tail 32,
+    /// height 8, big-endian.
+    ///
+    /// ```
+    /// use mahqurith::{Keeper, Refusal, RECORD};
+    ///
+    /// let keeper = Keeper::wake(&[1; 32]);
+    /// let mut bytes = keeper.to_bytes();
+    /// assert_eq!(Keeper::from_bytes(&bytes)?, keeper);
+    /// assert_eq!(Keeper::from_bytes(&bytes[1..]), Err(Refusal::RecordNotSound));
+    /// bytes[0] = 4; // there is no such status
+    /// assert_eq!(Keeper::from_bytes(&bytes), Err(Refusal::RecordNotSound));
+    /// # Ok::<(), Refusal>(())
+    /// ```
+    pub fn to_bytes(&self) -> [u8; RECORD] {
+        let h = &self.head;
+        let mut bytes = vec![h.status, h.count];
+        for part in [&h.key, &h.identity, &h.own, &h.previous, &h.next] {
+            bytes.extend_from_slice(part);
+        }
+        for row in &self.rows {
+            bytes.extend_from_slice(&row.label);
+            bytes.extend_from_slice(&row.tail);
+            bytes.extend_from_slice(&row.height.to_be_bytes());
+        }
+        bytes.try_into().expect("3690 bytes")
+    }
+
+    /// The record of these bytes. Bytes of another length, or with a status that no keeper has, are refused with 2; whether the rest is sound, each call tells.
+    pub fn from_bytes(bytes: &[u8]) -> Result<Keeper, Refusal> {
+        if bytes.len() != RECORD || bytes[0] > 3 {
+            return Err(Refusal::RecordNotSound);
+        }
+        let part = |i: usize| bytes[2 + 32 * i..][..32].try_into().expect("32 bytes");
+        let head = Head { status: bytes[0], count: bytes[1], key: part(0), identity: part(1), own: part(2), previous: part(3), next: part(4) };
+        let rows = std::array::from_fn(|i| {
+            let row = &bytes[HEAD + ROW * i..][..ROW];
+            Row {
+                label: row[..16].try_into().expect("16 bytes"),
+                tail: row[16..48].try_into().expect("32 bytes"),
+                height: u64::from_be_bytes(row[48..].try_into().expect("8 bytes")),
+            }
+        });
+        Ok(Keeper { head, rows })
     }
 
     /// Initialise of a rack that is founded: the keeper is active at once.

@@ -1,7 +1,7 @@
 //! Racks, rolls and statements, read and written.
 
 use crate::sys::{self, Reading, Row, Written};
-use crate::{Key, Refusal};
+use crate::{Digest, Key, Refusal};
 
 pub use crate::sys::Statement;
 
@@ -54,6 +54,22 @@ impl Rack {
     pub fn to_bytes(&self) -> Result<Vec<u8>, Refusal> {
         written::<481>(|area, length| unsafe { sys::mahqurith_write_rack(self.0, area, length) })
     }
+}
+
+/// The digest of a rack, which is given by its bytes.
+///
+/// ```
+/// use mahqurith::{rack_digest, sha256, Rack, Refusal};
+///
+/// let rack = Rack::of(&[[1; 32]])?.to_bytes()?;
+/// assert_eq!(rack_digest(&rack)?, sha256(&[&[3], &rack[..]].concat())?);
+/// assert_eq!(rack_digest(&rack[1..]), Err(Refusal::RackBroken));
+/// # Ok::<(), Refusal>(())
+/// ```
+pub fn rack_digest(rack: &[u8]) -> Result<Digest, Refusal> {
+    let mut digest = [0; 32];
+    let answer = unsafe { sys::mahqurith_rack_digest(rack.as_ptr(), rack.len(), digest.as_mut_ptr(), digest.len()) };
+    Refusal::unless_accepted(answer.number, 0).map(|()| digest)
 }
 
 /// A roll: up to 63 rows, labels strictly rising.

@@ -29,6 +29,7 @@
 #[cfg(not(target_arch = "x86_64"))]
 compile_error!("libmahqurith.a has code for x86-64 and for no other processor");
 
+mod bundle;
 mod desk;
 mod keeper;
 mod layouts;
@@ -36,9 +37,10 @@ mod refusal;
 mod store;
 pub mod sys;
 
+pub use bundle::{bundle_mark, bundle_position};
 pub use desk::{verdict, Found, Kind, Question};
-pub use keeper::{Finalised, Keeper, List};
-pub use layouts::{Rack, Roll, Statement};
+pub use keeper::{Finalised, Keeper, List, RECORD};
+pub use layouts::{rack_digest, Rack, Roll, Statement};
 pub use refusal::Refusal;
 pub use store::{Block, Store};
 pub use sys::{Head, Row};
@@ -70,4 +72,19 @@ pub fn sha256(message: &[u8]) -> Result<Digest, Refusal> {
     let mut digest = [0; 32];
     let number = unsafe { sys::mahqurith_sha256(message.as_ptr(), message.len(), &mut digest) };
     Refusal::unless_accepted(number, 0).map(|()| digest)
+}
+
+/// The tail of a ledger after an entry, which is given by its digest.
+///
+/// ```
+/// use mahqurith::{sha256, tail_after};
+///
+/// let entry = sha256(b"Cue 12: the moon comes up")?;
+/// assert_eq!(tail_after(&[0; 32], &entry), sha256(&[&[1][..], &[0; 32], &entry].concat())?);
+/// # Ok::<(), mahqurith::Refusal>(())
+/// ```
+pub fn tail_after(tail: &Digest, entry: &Digest) -> Digest {
+    let mut after = *tail;
+    unsafe { sys::mahqurith_tail_after(&mut after, entry) };
+    after
 }

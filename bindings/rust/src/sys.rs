@@ -150,6 +150,15 @@ pub struct Stored {
     pub height: u64,
 }
 
+/// An entry's position in its rack: zero with a refusal.
+#[repr(C)]
+#[derive(Clone, Copy, PartialEq, Eq, Debug)]
+#[allow(missing_docs)]
+pub struct Position {
+    pub number: u32,
+    pub position: u8,
+}
+
 /// A reading: 0 and what was read, or a refusal and zeros.
 #[repr(C)]
 #[derive(Clone, Copy, PartialEq, Eq, Debug)]
@@ -221,6 +230,8 @@ extern "C" {
         area: *mut u8,
         area_length: usize,
     ) -> Answer;
+    pub fn mahqurith_bundle_position(bundle: *const u8, bundle_length: usize, list: u8, number: u64) -> Position;
+    pub fn mahqurith_bundle_mark(bundle: *mut u8, bundle_length: usize, list: u8, number: u64, marks: u8) -> u32;
     pub fn mahqurith_verdict(
         question: Question,
         rack: *const u8,
@@ -232,6 +243,7 @@ extern "C" {
     ) -> Finding;
     pub fn mahqurith_read_rack(bytes: *const u8, length: usize) -> Reading<Rack>;
     pub fn mahqurith_write_rack(rack: Rack, area: *mut u8, area_length: usize) -> Written;
+    pub fn mahqurith_rack_digest(rack: *const u8, rack_length: usize, area: *mut u8, area_length: usize) -> Written;
     pub fn mahqurith_read_roll(bytes: *const u8, length: usize) -> Reading<Roll>;
     pub fn mahqurith_write_roll(roll: Roll, area: *mut u8, area_length: usize) -> Written;
     pub fn mahqurith_read_statement(bytes: *const u8, length: usize) -> Reading<Statement>;
@@ -239,4 +251,5 @@ extern "C" {
     pub fn mahqurith_store_append(area: *mut u8, area_length: usize, asked: Place, text: *const u8, text_length: usize) -> Stored;
     pub fn mahqurith_store_read(area: *const u8, area_length: usize, asked: Place, output: *mut u8, output_length: usize) -> Stored;
     pub fn mahqurith_sha256(message: *const u8, length: usize, digest: *mut [u8; 32]) -> u32;
+    pub fn mahqurith_tail_after(tail: *mut [u8; 32], entry: *const [u8; 32]);
 }

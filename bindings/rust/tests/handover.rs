@@ -1,6 +1,7 @@
 //! Two racks, a handover between them, and what a desk is told before and after.
 
-use mahqurith::{sha256, verdict, Digest, Keeper, Kind, Label, List, Question, Rack, Refusal, Roll, Statement, ATTESTED, VALID};
+use mahqurith::{bundle_mark, bundle_position, rack_digest, sha256, tail_after, verdict};
+use mahqurith::{Digest, Keeper, Kind, Label, List, Question, Rack, Refusal, Roll, Statement, ATTESTED, RECORD, VALID};
 
 const LABEL: Label = *b"cues of tonight!";
 const GOOD: u8 = ATTESTED | VALID;
@@ -45,7 +46,8 @@ fn a_handover_keeps_the_tail() {
     let entry = sha256(b"Cue 1: house to half").unwrap();
     let receipt = keepers[0].append(&LABEL, &entry, 1).unwrap();
     let found = verdict(&question(identity, Kind::Append, 0), &old, &receipt, &[(0, GOOD), (2, GOOD)]).unwrap();
-    assert_eq!(found.height, 1);
+    assert_eq!((found.height, found.tail), (1, tail_after(&[0; 32], &entry)));
+    assert_eq!(identity, rack_digest(&old).unwrap());
 
     let first = keepers[0].finalise(&new).unwrap();
     let second = keepers[1].finalise(&new).unwrap();
@@ -83,6 +85,53 @@ fn a_forged_bundle_is_refused() {
     unsigned[2] = ATTESTED;
     assert_eq!(heir.activate(&old, &new, &unsigned), Err(Refusal::SignatureNotValid));
     assert_eq!(heir, before);
+}
+
+/// The marks of each entry that Bytes to check knows, set in a bundle whose marks a messenger chose.
+#[test]
+fn a_box_sets_its_own_marks() {
+    let (old, new) = (rack_of(&[1, 2, 3]), rack_of(&[4, 5, 6]));
+    let mut keepers = founded(&[1, 2, 3]);
+    let identity = keepers[0].head().identity;
+    keepers[0].append(&LABEL, &[6; 32], 1).unwrap();
+    let rolls: Vec<Vec<u8>> = keepers.iter_mut().take(2).map(|k| k.finalise(&new).unwrap().roll).collect();
+    let mut heir = Keeper::wake(&[4; 32]);
+    heir.join(&identity, &rolls[0], &old, &new).unwrap();
+    let marked = bundle_of([&rolls[0], &rolls[1]], &[6; 32]);
+    let mut bundle = marked.clone();
+    for (list, number) in [(List::Old, 0), (List::Old, 1), (List::New, 0), (List::New, 1)] {
+        assert_eq!(bundle_position(&bundle, list, number), Ok(number as u8));
+        bundle_mark(&mut bundle, list, number, 0).unwrap();
+    }
+    assert_eq!(heir.activate(&old, &new, &bundle), Err(Refusal::NotAttested));
+    for list in [List::Old, List::New] {
+        let mut number = 0;
+        while heir.bytes_to_check(&old, &new, &bundle, list, number).is_ok() {
+            bundle_mark(&mut bundle, list, number, GOOD).unwrap();
+            number += 1;
+        }
+        assert_eq!(bundle_mark(&mut bundle, list, number, GOOD), Err(Refusal::ListBroken));
+    }
+    assert_eq!(bundle, marked);
+    heir.activate(&old, &new, &bundle).unwrap();
+}
+
+#[test]
+fn a_record_goes_to_bytes_and_back() {
+    let mut keeper = founded(&[1]).remove(0);
+    keeper.append(&LABEL, &[6; 32], 1).unwrap();
+    let mut bytes = keeper.to_bytes();
+    assert_eq!((bytes.len(), RECORD), (162 + 63 * 56, 3690));
+    assert_eq!((bytes[0], bytes[1], &bytes[2..34], &bytes[34..66]), (2, 1, &[1; 32][..], &keeper.head().identity[..]));
+    assert_eq!((&bytes[162..178], &bytes[178..210], &bytes[210..218]), (&LABEL[..], &keeper.rows()[0].tail[..], &1u64.to_be_bytes()[..]));
+    let mut again = Keeper::from_bytes(&bytes).unwrap();
+    assert_eq!(again, keeper);
+    assert_eq!(again.append(&LABEL, &[7; 32], 2), keeper.append(&LABEL, &[7; 32], 2));
+    for wrong in [&bytes[..RECORD - 1], &[&bytes[..], &[0]].concat(), &[]] {
+        assert_eq!(Keeper::from_bytes(wrong), Err(Refusal::RecordNotSound));
+    }
+    bytes[0] = 4;
+    assert_eq!(Keeper::from_bytes(&bytes), Err(Refusal::RecordNotSound));
 }
 
 #[test]

@@ -1,14 +1,18 @@
 -- The whole outcome of reading and of writing. 01, "Layouts": "Reading a rack, roll or statement by itself refuses with 6, 15 or 23, exactly when the layout
 -- is broken; writing one refuses with that number for contents no reading gives, then with 1 for an area too short."
+use mathlib.Core.Bool.{cond}
 use mathlib.Core.List.{List}
 use mathlib.Core.Option.{Option, none, some}
 use Prim.Native.Nat.{ℕ}
-use lib.ListN.{replicate}
-use Rattle.refusals.specs.{accepted, rack-broken, roll-broken, statement-not-asked}
-use Rattle.octets.specs.Layouts.{Written, read, writing}
+use lib.Dec.{ltb}
+use lib.ListN.{length, replicate}
+use Rattle.refusals.specs.{accepted, area-too-short, rack-broken, roll-broken, statement-not-asked}
+use Rattle.octets.specs.Strings.{put}
+use Rattle.octets.specs.Layouts.{Written, holds, read, unwritten, writing}
 use Rattle.rack.specs.Racks as rack
-use Rattle.rack.specs.Racks.{most, key-bytes, rack-layout}
+use Rattle.rack.specs.Racks.{most, key-bytes, rack-layout, rack-digest}
 use Rattle.rows.specs.Sizes.{most-rows, label-bytes, tail-bytes}
+use Rattle.statement.specs.Kinds.{digest-bytes}
 use Rattle.roll.specs.Roll as roll
 use Rattle.roll.specs.Roll.{roll-layout}
 use Rattle.statement.specs.declared.Statement.{Statement}
@@ -33,6 +37,15 @@ reading-rack s = rack-given (read rack-layout s)
 
 unfoldable pub writing-rack : Rack → List ℕ → Written
 writing-rack r area = writing rack-layout rack-broken (rack-of r) area
+
+-- "Rack digest = SHA-256 of 0x03 then the rack."
+unfoldable pub digesting-rack : List ℕ → List ℕ → Written
+digesting-rack s area =
+    cond (holds rack-layout s)
+    (cond (ltb (length area) digest-bytes)
+    (unwritten area-too-short area)
+    (record { answer = accepted; count = digest-bytes; area = put area 0 (rack-digest s) }))
+    (unwritten rack-broken area)
 
 abbrev pub no-row : Row
 no-row = record { label = replicate label-bytes 0; tail = replicate tail-bytes 0; height = 0 }

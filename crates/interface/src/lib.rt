@@ -1,4 +1,5 @@
-// The calls for C: the hash, the layouts and the verdict, as `include/mahqurith.h` declares them.
+// The calls for C: the hash, the digests, the layouts and the verdict, as `include/mahqurith.h` declares them.
+mod digests;
 mod hashing;
 mod judging;
 mod kinds;
@@ -6,6 +7,8 @@ mod racks;
 mod rolls;
 mod statements;
 
+pub use digests::mahqurith_rack_digest;
+pub use digests::mahqurith_tail_after;
 pub use hashing::mahqurith_sha256;
 pub use judging::mahqurith_verdict;
 use rack::KEY_BYTES;
