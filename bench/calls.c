@@ -10,7 +10,7 @@
 #include <string.h>
 #include <time.h>
 
-enum { ROUNDS = 500, STACK = 1 << 20, PAINT = 0xa5, CHUNK = 508 };
+enum { ROUNDS = 500, STACK = 1 << 20, PAINT = 0xa5, CHUNK = 508, TWENTY = 20 };
 
 static int ledgers;
 static uint8_t shelf_before[MAHQURITH_STORE], shelf[MAHQURITH_STORE];
@@ -44,6 +44,19 @@ static void prepare(void)
 static void new_ledger(void) { settle(mahqurith_new(&box.head, box.rows, MAHQURITH_ROWS, about(ledgers), area, sizeof area)); }
 
 static void append(void) { settle(mahqurith_append(&box.head, box.rows, MAHQURITH_ROWS, last(), area, sizeof area)); }
+
+/* Twenty entries, by one call and by twenty. */
+static void append_many(void)
+{
+    settle(mahqurith_append_many(&box.head, box.rows, MAHQURITH_ROWS, last(), message, TWENTY * MAHQURITH_DIGEST, area, sizeof area));
+}
+
+static void append_twenty(void)
+{
+    mahqurith_asked asked = last();
+    for (int i = 0; i < TWENTY; i++, asked.expected++)
+        settle(mahqurith_append(&box.head, box.rows, MAHQURITH_ROWS, asked, area, sizeof area));
+}
 
 static void read_ledger(void) { settle(mahqurith_read(&box.head, box.rows, MAHQURITH_ROWS, last(), area, sizeof area)); }
 
@@ -102,6 +115,12 @@ static void hash_blocks(void)
 }
 
 static void hash_entry(void) { hash(1 + 2 * MAHQURITH_DIGEST); }
+
+static void hash_twenty(void)
+{
+    for (int i = 0; i < TWENTY; i++)
+        hash_entry();
+}
 
 static void hash_founding(void)
 {
@@ -178,6 +197,8 @@ static const struct trial {
     {"initialise-joining", BLANK, prepare, hash_preparing},
     {"new", ACTIVE, new_ledger, hash_nothing},
     {"append", ACTIVE, append, hash_entry},
+    {"append-many-20", ACTIVE, append_many, hash_twenty},
+    {"append-20-times", ACTIVE, append_twenty, hash_twenty},
     {"read", ACTIVE, read_ledger, hash_nothing},
     {"append-and-read", ACTIVE, append_and_read, hash_entry},
     {"finalise", ACTIVE, finalise, hash_finalise},

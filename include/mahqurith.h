@@ -46,7 +46,7 @@ extern "C" {
  * are not to be mixed.
  */
 #define MAHQURITH_VERSION_MAJOR 1
-#define MAHQURITH_VERSION_MINOR 4
+#define MAHQURITH_VERSION_MINOR 5
 
 /*
  * Answers: 0, or the refusal's number; mahqurith_meaning says what each means. Tests are made in the order that each call
@@ -79,6 +79,7 @@ enum {
     MAHQURITH_STATEMENT_NOT_ASKED = 23,
     MAHQURITH_NONCE_DIFFERS = 24,
     MAHQURITH_INPUT_TOO_LONG = 25,
+    MAHQURITH_LIST_OF_WRONG_LENGTH = 32,
     MAHQURITH_TEXT_TOO_LONG = 33,
     MAHQURITH_STORE_FULL = 34,
     MAHQURITH_BLOCK_DAMAGED = 35,
@@ -116,6 +117,7 @@ static inline const char *mahqurith_meaning(uint32_t number)
         return "statement is not the one asked for: length, layout, kind, identity, rack digest or label";
     case MAHQURITH_NONCE_DIFFERS: return "nonce differs";
     case MAHQURITH_INPUT_TOO_LONG: return "hash input over 65,536 bytes";
+    case MAHQURITH_LIST_OF_WRONG_LENGTH: return "list of 0 or more than 32";
     case MAHQURITH_TEXT_TOO_LONG: return "text over 418 bytes";
     case MAHQURITH_STORE_FULL: return "every block of the store is used";
     case MAHQURITH_BLOCK_DAMAGED: return "no undamaged block answers, and the store holds a damaged one";
@@ -133,6 +135,7 @@ enum {
     MAHQURITH_KEYS = 15,          /* keys of a rack, at most */
     MAHQURITH_RACK = 481,         /* a rack of 15 */
     MAHQURITH_ROWS = 63,          /* rows of a record, exactly */
+    MAHQURITH_ENTRIES = 32,       /* entry digests of Append many, at most */
     MAHQURITH_BLOCK = 512,        /* a roll travels in blocks */
     MAHQURITH_ROLL = 3584,        /* a roll of 63 rows: seven blocks */
     MAHQURITH_RECEIPT = 121,      /* statement of kind 1 or 2 */
@@ -202,9 +205,9 @@ typedef struct {
 /*
  * The keeper's calls.
  *
- * The chip signs, once each, the statements that Initialise, New, Append, Read, Append and read and Finalise write, and
- * nothing else: nothing after a refusal, nothing that is marked as a repeat, nothing that Bytes to check writes. Head and
- * rows are durable before the chip signs.
+ * The chip signs, once each, the statements that Initialise, New, Append, Append many, Read, Append and read and Finalise
+ * write, and nothing else: nothing after a refusal, nothing that is marked as a repeat, nothing that Bytes to check writes.
+ * Head and rows are durable before the chip signs.
  */
 
 /*
@@ -230,6 +233,15 @@ mahqurith_answer mahqurith_new(mahqurith_head *head, mahqurith_row *rows, size_t
 /* Reads label, entry, expected. Area: MAHQURITH_RECEIPT. Refuses: 1, 2, 4, 10, 11, 12. Expected is the row's height plus 1. */
 mahqurith_answer mahqurith_append(mahqurith_head *head, mahqurith_row *rows, size_t row_count, mahqurith_asked asked,
                                   uint8_t *area, size_t area_length);
+
+/*
+ * Reads label, expected. The list is 1 to MAHQURITH_ENTRIES entry digests, one behind the other; expected is the row's height
+ * plus 1, the first one's height. Area: MAHQURITH_RECEIPT. Refuses: 1, 2, 4, 32 (also where the length is not of whole
+ * digests), 10, 11, 12 where any entry would pass the top. The record and the one statement are those after appending the
+ * entries one by one; heights in between are signed by nobody. A refusal appends none of them.
+ */
+mahqurith_answer mahqurith_append_many(mahqurith_head *head, mahqurith_row *rows, size_t row_count, mahqurith_asked asked,
+                                       const uint8_t *list, size_t list_length, uint8_t *area, size_t area_length);
 
 /* Reads label, nonce. Area: MAHQURITH_READING. Refuses: 1, 2, 4, 10. Head and rows stay. */
 mahqurith_answer mahqurith_read(const mahqurith_head *head, const mahqurith_row *rows, size_t row_count,

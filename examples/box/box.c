@@ -146,6 +146,7 @@ static mahqurith_answer call(record *k, const request *q, uint8_t *area, size_t 
     switch (q->call) {
     case ASK_NEW: return mahqurith_new(RECORD(k), q->asked, area, room);
     case ASK_APPEND: return mahqurith_append(RECORD(k), q->asked, area, room);
+    case ASK_APPEND_MANY: return mahqurith_append_many(RECORD(k), q->asked, BYTES(q->entries), area, room);
     case ASK_READ: return mahqurith_read(RECORD(k), q->asked, area, room);
     case ASK_APPEND_AND_READ: return mahqurith_append_and_read(RECORD(k), q->asked, area, room);
     case ASK_FINALISE: return mahqurith_finalise(RECORD(k), BYTES(q->rack), area, room);

@@ -30,7 +30,7 @@ typedef struct {
 enum { FLIP = 2, PLACES };
 
 /* What a box is asked. */
-enum { ASK_WAKE, ASK_INITIALISE, ASK_ACTIVATE, ASK_NEW, ASK_APPEND, ASK_READ, ASK_APPEND_AND_READ, ASK_FINALISE, ASK_AGAIN, ASK_WHO };
+enum { ASK_WAKE, ASK_INITIALISE, ASK_ACTIVATE, ASK_NEW, ASK_APPEND, ASK_APPEND_MANY, ASK_READ, ASK_APPEND_AND_READ, ASK_FINALISE, ASK_AGAIN, ASK_WHO };
 enum { AGAIN_IN, AGAIN_LAST, AGAIN_OUT };
 
 typedef struct { size_t length; uint8_t *bytes; } span;
@@ -38,6 +38,7 @@ typedef struct { size_t length; uint8_t *bytes; } span;
 typedef struct {
     uint8_t call, slot, again;
     mahqurith_asked asked;
+    span entries;              /* of Append many: their digests, one behind the other */
     span roll, previous, rack; /* the rack is the own one, of Finalise the next one */
     span bundle, proofs;       /* of Activate; for each entry of the bundle, the old ones first, a signature and the evidence of its key */
 } request;

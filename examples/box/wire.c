@@ -65,6 +65,7 @@ void request_written(const request *q, frame *f) {
     put(f, q->asked.entry, MAHQURITH_DIGEST);
     put(f, q->asked.nonce, MAHQURITH_NONCE);
     put_number(f, q->asked.expected, 8);
+    put_span(f, q->entries);
     put_span(f, q->roll);
     put_span(f, q->previous);
     put_span(f, q->rack);
@@ -84,6 +85,7 @@ bool request_read(request *q, frame *f) {
     get(&r, q->asked.entry, MAHQURITH_DIGEST);
     get(&r, q->asked.nonce, MAHQURITH_NONCE);
     q->asked.expected = get_number(&r, 8);
+    q->entries = get_span(&r, f);
     q->roll = get_span(&r, f);
     q->previous = get_span(&r, f);
     q->rack = get_span(&r, f);

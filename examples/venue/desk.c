@@ -48,10 +48,14 @@ static bool is_at(const mahqurith_finding *found, uint64_t height, const uint8_t
 
 /* Whether what was found is what the desk asked to append, after what it last saw: an old receipt has good signatures too. */
 bool desk_keeps(desk *d, const request *q, const mahqurith_finding *found) {
+    bool many = q->call == ASK_APPEND_MANY;
+    const uint8_t *entries = many ? q->entries.bytes : q->asked.entry;
+    size_t count = many ? q->entries.length / MAHQURITH_DIGEST : 1;
     uint8_t tail[MAHQURITH_DIGEST];
     memcpy(tail, d->seen.tail, MAHQURITH_DIGEST);
-    mahqurith_tail_after(tail, q->asked.entry);
-    bool kept = is_at(found, d->seen.height + 1, tail);
+    for (size_t i = 0; i < count; i++)
+        mahqurith_tail_after(tail, entries + i * MAHQURITH_DIGEST);
+    bool kept = is_at(found, d->seen.height + count, tail);
     if (kept)
         d->seen = *found;
     return kept;

@@ -43,17 +43,44 @@ static void wake(int rack) {
     }
 }
 
+/* The text goes to the messenger's store before its digest goes to the boxes. */
+static void keep(const char *cue, uint64_t height, uint8_t entry[MAHQURITH_DIGEST]) {
+    request q = {.asked.expected = height, .roll = {strlen(cue), (uint8_t *)cue}};
+    memcpy(q.asked.label, console.question.label, MAHQURITH_LABEL);
+    errand(KEEP, A, 0, &q);
+    digest_text(cue, entry);
+}
+
+/* How many boxes sign what is to be appended; the desk accepts it. */
+static size_t appended(int rack, const request *q) {
+    pile p = errand(CARRY, rack, 0, q);
+    mahqurith_finding found = desk_judge(&console, &console.list, &p);
+    must(desk_keeps(&console, q, &found), "the desk accepts what it appends");
+    return p.count;
+}
+
 static void record_cue(int rack, const char *cue) {
     request q = desk_ask(&console, MAHQURITH_APPEND);
-    digest_text(cue, q.asked.entry);
     q.asked.expected = console.seen.height + 1;
-    q.roll = (span){strlen(cue), (uint8_t *)cue};
-    errand(KEEP, rack, 0, &q);
-    q.roll = (span){0};
-    pile p = errand(CARRY, rack, 0, &q);
-    mahqurith_finding found = desk_judge(&console, &console.list, &p);
-    must(desk_keeps(&console, &q, &found), "the desk accepts a cue");
-    printf("%s. %zu of 5 boxes sign: recorded.\n", cue, p.count);
+    keep(cue, q.asked.expected, q.asked.entry);
+    printf("%s. %zu of 5 boxes sign: recorded.\n", cue, appended(rack, &q));
+}
+
+/* The cues of a scene, recorded at one press: each box signs once. */
+static void record_scene(int rack, const char *scene, int cues) {
+    uint8_t entries[MAHQURITH_ENTRIES][MAHQURITH_DIGEST];
+    request q = desk_ask(&console, MAHQURITH_APPEND);
+    int first = (int)console.seen.height + 1;
+    q.call = ASK_APPEND_MANY;
+    q.asked.expected = (uint64_t)first;
+    q.entries = (span){(size_t)cues * MAHQURITH_DIGEST, entries[0]};
+    for (int i = 0; i < cues; i++) {
+        char cue[64];
+        snprintf(cue, sizeof cue, "Cue %d: %s, %d of %d", first + i, scene, i + 1, cues);
+        keep(cue, (uint64_t)(first + i), entries[i]);
+    }
+    printf("Cues %d to %d: %s, %d cues recorded at one press. %zu of 5 boxes sign, each of them once.\n", first, first + cues - 1, scene, cues,
+           appended(rack, &q));
 }
 
 /* The replies to a reading with a new nonce. */
@@ -245,6 +272,7 @@ int main(int count, char **words) {
     interval();
     puts("\nTHE EVENING, SECOND HALF");
     record_cue(B, "Cue 5: sunrise, 90 seconds");
+    record_scene(B, "the storm", 20);
     puts("Box B4 stops replying.");
     pull(box_of(B, 3));
     tonight = open_ledger(B);

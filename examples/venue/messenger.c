@@ -8,7 +8,7 @@
 
 static struct { list list; uint8_t member_at[BOXES]; } racks[RACKS];
 static pile finals, initials;
-static uint8_t store[8 * MAHQURITH_BLOCK];
+static uint8_t store[32 * MAHQURITH_BLOCK];
 
 void must(bool holds, const char *what) {
     if (holds)

@@ -72,6 +72,12 @@ pub enum Call {
         expected: u64,
         nonce: [u8; 16],
     },
+    /// M-100; the list is bytes, of which a length may be no whole digests.
+    AppendMany {
+        label: [u8; 16],
+        list: Vec<u8>,
+        expected: u64,
+    },
     Finalise {
         next: Vec<u8>,
     },

@@ -4,6 +4,7 @@
 
 pub mod block;
 pub mod broken;
+pub mod broken_many;
 pub mod broken_store;
 pub mod bundle;
 pub mod call;

@@ -41,6 +41,16 @@ extern "C" {
         area: Out,
         area_length: usize,
     ) -> Answer;
+    fn mahqurith_append_many(
+        head: *mut Head,
+        rows: *mut Row,
+        row_count: usize,
+        asked: Asked,
+        list: In,
+        list_length: usize,
+        area: Out,
+        area_length: usize,
+    ) -> Answer;
     fn mahqurith_finalise(
         head: *mut Head,
         rows: *mut Row,
@@ -148,6 +158,7 @@ impl Party for Library {
             Call::Append { .. } => call!(mahqurith_append {head, table} [fixed] [] [area]),
             Call::Read { .. } => call!(mahqurith_read {head, table} [fixed] [] [area]),
             Call::AppendAndRead { .. } => call!(mahqurith_append_and_read {head, table} [fixed] [] [area]),
+            Call::AppendMany { list, .. } => call!(mahqurith_append_many { head, table }[fixed][list][area]),
             Call::Finalise { next } => call!(mahqurith_finalise {head, table} [] [next] [area]),
             Call::Activate(Papers { previous, own, bundle }) => {
                 call!(mahqurith_activate {head, table} [] [previous, own, bundle] [])
@@ -191,6 +202,7 @@ fn fixed_sizes(asked: &Call) -> Asked {
         Call::Append { label, entry, expected } => Asked { label, entry, expected, ..unread },
         Call::Read { label, nonce } => Asked { label, nonce, ..unread },
         Call::AppendAndRead { label, entry, expected, nonce } => Asked { label, entry, expected, nonce, ..unread },
+        Call::AppendMany { label, expected, .. } => Asked { label, expected, ..unread },
         Call::BytesToCheck { list, entry, .. } => Asked { list, number: entry, ..unread },
         _ => unread,
     }

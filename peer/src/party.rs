@@ -50,6 +50,9 @@ pub fn perform_by(rules: &dyn Rules, lent: &mut Lent, call: &Call) -> Reply {
         Call::AppendAndRead { label, entry, expected, nonce } => {
             tried(calls::append_and_read(lent, label, entry, *expected, nonce))
         }
+        Call::AppendMany { label, list, expected } => {
+            tried(calls::append_many(rules.many(), lent, label, list, *expected))
+        }
         Call::Finalise { next } => tried(calls::finalise(rules, lent, next)),
         Call::Activate(papers) => tried(calls::activate(rules, lent, papers)),
         Call::BytesToCheck { papers, list, entry } => tried(calls::bytes_to_check(rules, lent, papers, *list, *entry)),

@@ -54,6 +54,8 @@ pub const OTHER_NONCE: Refusal = 24;
 /// "hash input over 65,536 bytes"
 pub const HASH_INPUT_TOO_LONG: Refusal = 25;
 
+/// M-100: "32 for a list of 0 or more than 32"
+pub const NOT_1_TO_32: Refusal = 32;
 /// M-104: "33 for text over 418 bytes"
 pub const TEXT_TOO_LONG: Refusal = 33;
 /// M-104: "34 exactly when every block is used"

@@ -1,6 +1,7 @@
 //! This file holds the sentences of 01 and 02 at which the slips aim, as they are said; `broken.rs` says one of them otherwise.
 
 use crate::bundle::{self, Bundle, Held};
+use crate::calls::{ManyOf02, ManyRules};
 use crate::roll::Roll;
 use crate::row::Row;
 use crate::statement::KIND_READ;
@@ -45,6 +46,11 @@ pub trait Rules {
     /// "for each row, its height plus the count equals ours …", with M-101 where an old roll lacks it.
     fn row_is_derived(&self, our: &Row, held: &[Held]) -> bool {
         bundle::row_is_derived(our, held)
+    }
+
+    /// M-100
+    fn many(&self) -> &dyn ManyRules {
+        &ManyOf02
     }
 
     /// M-104

@@ -1,12 +1,13 @@
 //! This file tests that the peer passes every trial, that each broken rule is caught, and that the comparison sees differences.
 
 use peer::broken::{Slip, SLIPS, SLIPS_OF_M_101, SLIPS_OF_M_107};
+use peer::broken_many::MANY_SLIPS;
 use peer::broken_store::STORE_SLIPS;
 use peer::party::{Party, Peer};
 use peer::trial::lists::LISTS;
 use peer::trial::pairing::Pairing;
 use peer::trial::prng::Prng;
-use peer::trial::{history, hostile, layouts, missing, numbers, order, readings, records, store};
+use peer::trial::{history, hostile, layouts, many, missing, numbers, order, readings, records, store};
 use std::time::Instant;
 
 fn quiet<'a>(first: &'a dyn Party, second: &'a dyn Party, seed: u64) -> Pairing<'a> {
@@ -65,8 +66,7 @@ fn sound_rules_survive_hostile_histories() {
         history::run_any(&mut pairing, &mut prng);
     }
     assert_clean(&pairing);
-    let activated = pairing.tally.by_call[14][&0];
-    let accepted = pairing.tally.by_call[16][&0];
+    let [activated, accepted] = ["Activate", "Verdict"].map(|call| pairing.tally.accepted(call));
     assert!(activated > 100 && accepted > 1_000, "{activated} activations, {accepted} accepted verdicts");
 }
 
@@ -130,7 +130,7 @@ fn peer_keeps_the_store() {
         store::run_any(&mut pairing, &mut prng);
     }
     assert_clean(&pairing);
-    let [appended, read] = [17, 18].map(|call| pairing.tally.by_call[call][&0]);
+    let [appended, read] = ["Store append", "Store read"].map(|call| pairing.tally.accepted(call));
     println!("{} calls, {appended} appends and {read} reads accepted", pairing.tally.calls);
     assert!(appended > 1_000 && read > 1_000);
 }
@@ -157,6 +157,30 @@ fn order_catches_each_slip_of_the_stores_order() {
     for slip in STORE_SLIPS.into_iter().filter(|slip| slip.is_of_order()) {
         let mut pairing = quiet(&slip, &slip, 25);
         order::run(&mut pairing, &mut Prng::new(25));
+        assert!(pairing.tally.faults > 0, "{slip:?} was not caught");
+    }
+}
+
+#[test]
+fn peer_appends_many() {
+    let mut prng = Prng::new(27);
+    let mut pairing = quiet(&Peer, &Peer, 27);
+    many::run(&mut pairing, &mut prng);
+    for _ in 0..1_000 {
+        many::run_any(&mut pairing, &mut prng);
+    }
+    assert_clean(&pairing);
+    let accepted = pairing.tally.accepted("Append many");
+    println!("{} calls, {accepted} appends of many accepted", pairing.tally.calls);
+    assert!(accepted > 1_000);
+}
+
+#[test]
+fn trials_catch_each_slip_of_append_many() {
+    for slip in MANY_SLIPS {
+        let mut pairing = quiet(&slip, &slip, 28);
+        many::run(&mut pairing, &mut Prng::new(28));
+        println!("{slip:?}: {} faults in {} calls", pairing.tally.faults, pairing.tally.calls);
         assert!(pairing.tally.faults > 0, "{slip:?} was not caught");
     }
 }
@@ -222,6 +246,15 @@ fn comparison_sees_each_slip_of_the_store_as_a_difference() {
                 part(&mut pairing, &mut prng);
             }
         }
+        assert!(pairing.tally.differences > 0, "{slip:?} made no difference");
+    }
+}
+
+#[test]
+fn comparison_sees_each_slip_of_append_many_as_a_difference() {
+    for slip in MANY_SLIPS {
+        let mut pairing = quiet(&Peer, &slip, 29);
+        many::run(&mut pairing, &mut Prng::new(29));
         assert!(pairing.tally.differences > 0, "{slip:?} made no difference");
     }
 }

@@ -2,7 +2,7 @@
    writes on. A box that was stopped in a call is asked again, and first of all it is asked for what it must not do. What does not hold ends the test. */
 #include "evening.h"
 
-enum { OLD, NEW, HEIGHTS = 32, SIGNERS = 512, TRIES = 2000, PROOF = SIGNATURE + EVIDENCE };
+enum { OLD, NEW, HEIGHTS = 32, PRESS = 3 /* entries at one press */, SIGNERS = 512, TRIES = 2000, PROOF = SIGNATURE + EVIDENCE };
 
 typedef struct { uint8_t key[MAHQURITH_KEY], evidence[EVIDENCE], signature[SIGNATURE], roll[MAHQURITH_BLOCK]; bool lost; } keeper;
 typedef struct { uint8_t bytes[MAHQURITH_RACK], digest[MAHQURITH_DIGEST]; size_t length; int box_at[BOXES]; } rack;
@@ -19,6 +19,7 @@ static rack racks[SLOTS];
 static signer signers[SIGNERS];
 static size_t signer_count;
 static uint64_t height;
+static bool between[HEIGHTS]; /* heights of one press before its last */
 static uint8_t tail[MAHQURITH_DIGEST], entries[HEIGHTS][MAHQURITH_DIGEST], nonce[MAHQURITH_NONCE];
 static const uint8_t label[MAHQURITH_LABEL] = "tour, cue edits";
 uint8_t *meddled;
@@ -53,6 +54,7 @@ static bool is_member(const uint8_t key[MAHQURITH_KEY], const uint8_t digest[MAH
 
 static void note_height(signer *k, const mahqurith_statement *s) {
     hold(same(s->label, label, sizeof label) && s->height < HEIGHTS, "a key signs of the ledger that was made, and of no other");
+    hold(!between[s->height], "heights in between the entries of one press are signed by nobody");
     hold(!k->at[s->height] || same(k->tails[s->height], s->tail, MAHQURITH_DIGEST),
          "no two statements are signed for one ledger and height with different tails");
     k->at[s->height] = true;
@@ -205,17 +207,28 @@ static void judge(int s, uint8_t kind, const reply replies[BOXES], const bool go
          "what more than half have signed stands, and nothing else");
 }
 
-/* So many of the boxes sign the next entry; the others lag. */
+/* So many entries more, which the ledger is to have. */
+static void lengthen(int count) {
+    for (int left = count; left > 0; left--) {
+        height++;
+        memset(entries[height], (int)height, MAHQURITH_DIGEST);
+        mahqurith_tail_after(tail, entries[height]);
+        between[height] = left > 1;
+    }
+}
+
+/* So many of the boxes sign what comes next, one entry or those of a press; the others lag. */
 static void append(int s, uint8_t call, int enough) {
     reply replies[BOXES];
     bool got[BOXES] = {false};
-    height++;
-    memset(entries[height], (int)height, MAHQURITH_DIGEST);
-    mahqurith_tail_after(tail, entries[height]);
+    int count = call == ASK_APPEND_MANY ? PRESS : 1;
+    uint64_t first = height + 1;
+    lengthen(count);
     nonce[0]++;
     for (int i = 0; i < BOXES && enough > 0; i++) {
-        request q = append_at(s, height, entries[height]);
+        request q = append_at(s, first, entries[first]);
         q.call = call;
+        q.entries = span_of(entries[first], MAHQURITH_DIGEST * (size_t)count);
         memcpy(q.asked.nonce, nonce, sizeof nonce);
         got[i] = done(i, &q, MAHQURITH_OUT_OF_ORDER, AGAIN_LAST, MAHQURITH_RECEIPT, &replies[i]);
         enough -= got[i];
@@ -447,7 +460,7 @@ static void first_half(void) {
     append(OLD, ASK_APPEND_AND_READ, BOXES);
     if (can_spoil())
         memory_spoilt(0);
-    append(OLD, ASK_APPEND, BOXES - 1);
+    append(OLD, ASK_APPEND_MANY, BOXES - 1);
     unasked(1, OLD, ASK_WAKE, SOMEBODY, "a live slot is not woken");
 }
 
@@ -467,7 +480,7 @@ static void interval(void) {
 }
 
 static void second_half(void) {
-    append(NEW, ASK_APPEND, BOXES);
+    append(NEW, ASK_APPEND_MANY, BOXES);
     append(NEW, ASK_APPEND_AND_READ, BOXES);
     open_ledger(NEW);
     unasked(2, OLD, ASK_READ, SOMEBODY, "a retired keeper reads nothing");
@@ -481,6 +494,7 @@ void evening(void) {
     memset(keepers, 0, sizeof keepers);
     memset(racks, 0, sizeof racks);
     memset(tail, 0, sizeof tail);
+    memset(between, 0, sizeof between);
     height = 0;
     signer_count = 0;
     meddled = NULL;

@@ -27,7 +27,8 @@ static simulated boxes[BOXES];
 static struct { long at; fault kind; } planned[2];
 static struct { long steps, stops, fails, in[ASK_WHO + 2]; } count; /* in: the stops in each call, and in Start */
 static int under_way;
-static const char *const names[] = {"wake", "initialise", "activate", "new", "append", "read", "append and read", "finalise", "again", "who", "start"};
+static const char *const names[] = {"wake", "initialise", "activate", "new", "append", "append many", "read", "append and read", "finalise",
+                                    "again", "who", "start"};
 static long step, one_in; /* of the steps of this evening, one in so many has a fault by chance */
 static loss losing;
 static damage damaging;

@@ -98,6 +98,7 @@ static void refused(record x, uint32_t on_ledger, uint32_t on_initialise, uint32
 {
     asked.expected = 9;
     expect(mahqurith_append(RECORD(x), asked, AREA).number == on_ledger, "append refused");
+    expect(mahqurith_append_many(RECORD(x), asked, asked.entry, sizeof asked.entry, AREA).number == on_ledger, "append many refused");
     expect(mahqurith_append_and_read(RECORD(x), asked, AREA).number == on_ledger, "append and read refused");
     expect(mahqurith_new(RECORD(x), asked, AREA).number == (on_ledger == MAHQURITH_OUT_OF_ORDER ? (uint32_t)MAHQURITH_LEDGER_EXISTS : on_ledger), "new refused");
     expect(mahqurith_initialise(RECORD(x), asked, NULL, 0, NULL, 0, RACK_A, AREA).number == on_initialise, "initialise refused");

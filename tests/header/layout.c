@@ -183,6 +183,49 @@ static void test_both(void)
     expect(a.rows[0].height == 2, "the row after append and read");
 }
 
+/* A ledger at height 2: what many entries leave is what they leave one by one. */
+static void test_many(void)
+{
+    static uint8_t list[(MAHQURITH_ENTRIES + 1) * MAHQURITH_DIGEST], one_by_one[MAHQURITH_RECEIPT];
+    const size_t full = MAHQURITH_ENTRIES * MAHQURITH_DIGEST;
+    mahqurith_asked asked = about_ledger();
+    box single = a, whole = a;
+    for (size_t i = 0; i < sizeof list; i++)
+        list[i] = (uint8_t)(i / MAHQURITH_DIGEST + 1);
+    for (asked.expected = 3; asked.expected < 3 + MAHQURITH_ENTRIES; asked.expected++) {
+        memcpy(asked.entry, list + (asked.expected - 3) * MAHQURITH_DIGEST, MAHQURITH_DIGEST);
+        expect(mahqurith_append(&single.head, single.rows, MAHQURITH_ROWS, asked, one_by_one, sizeof one_by_one).number == 0, "one of many");
+    }
+    asked.expected = 3;
+    memset(asked.entry, 0, sizeof asked.entry);
+    exact(mahqurith_append_many(&a.head, a.rows, MAHQURITH_ROWS, asked, list, full, area, MAHQURITH_RECEIPT - 1),
+          mahqurith_append_many(&a.head, a.rows, MAHQURITH_ROWS, asked, list, full, area, MAHQURITH_RECEIPT), MAHQURITH_RECEIPT, "append many");
+    expect(same(&a, &single, sizeof a) && same(area, one_by_one, sizeof one_by_one) && a.rows[0].height == 2 + MAHQURITH_ENTRIES, "many, and one by one");
+    const struct { size_t length; uint64_t expected; uint8_t label; uint32_t number; uint64_t height; } refusals[] = {
+        {0, 3, 7, MAHQURITH_LIST_OF_WRONG_LENGTH, 0},  {sizeof list, 3, 7, MAHQURITH_LIST_OF_WRONG_LENGTH, 0},
+        {31, 3, 7, MAHQURITH_LIST_OF_WRONG_LENGTH, 0}, {0, 3, 8, MAHQURITH_LIST_OF_WRONG_LENGTH, 0},
+        {full, 3, 8, MAHQURITH_NO_SUCH_LEDGER, 0},     {full, 4, 7, MAHQURITH_OUT_OF_ORDER, 2},
+        {full, MAHQURITH_TOP, 7, MAHQURITH_OUT_OF_ORDER, 2},
+    };
+    for (size_t i = 0; i < sizeof refusals / sizeof *refusals; i++) {
+        box before = whole;
+        asked.expected = refusals[i].expected;
+        memset(asked.label, refusals[i].label, sizeof asked.label);
+        mahqurith_answer answer = mahqurith_append_many(&whole.head, whole.rows, MAHQURITH_ROWS, asked, list, refusals[i].length, area, sizeof area);
+        expect(answer.number == refusals[i].number && answer.height == refusals[i].height && answer.written == 0, "a refusal of many");
+        expect(same(&whole, &before, sizeof whole), "a refusal of many changed something");
+    }
+    memset(asked.label, 7, sizeof asked.label);
+    whole.rows[0].height = MAHQURITH_TOP - 2;
+    asked.expected = MAHQURITH_TOP - 1;
+    expect(mahqurith_append_many(&whole.head, whole.rows, MAHQURITH_ROWS, asked, list, 3 * MAHQURITH_DIGEST, area, sizeof area).number
+               == MAHQURITH_HEIGHT_AT_TOP && whole.rows[0].height == MAHQURITH_TOP - 2, "the last of many over the top");
+    expect(mahqurith_append_many(&whole.head, whole.rows, MAHQURITH_ROWS, asked, list, 2 * MAHQURITH_DIGEST, area, sizeof area).number == 0
+               && whole.rows[0].height == MAHQURITH_TOP, "the last of many at the top");
+    guarded(&a);
+    guarded(&whole);
+}
+
 /* Leaves the roll's one block behind the statement in the area. */
 static void test_finalise(void)
 {
@@ -376,6 +419,7 @@ int main(void)
     test_verdict();
     test_both();
     test_entries();
+    test_many();
     test_finalise();
     memcpy(block, area + MAHQURITH_HANDOVER, sizeof block);
     test_roll(block);

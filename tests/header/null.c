@@ -70,6 +70,10 @@ CASE(new_all, mahqurith_new(NO_ROWS, asked, NO_AREA))
 CASE(append_rows, mahqurith_append(NO_ROWS, asked, AREA))
 CASE(append_area, mahqurith_append(RECORD, asked, NO_AREA))
 CASE(append_all, mahqurith_append(NO_ROWS, asked, NO_AREA))
+CASE(many_rows, mahqurith_append_many(NO_ROWS, asked, RACK_A, AREA))
+CASE(many_list, mahqurith_append_many(RECORD, asked, NOTHING, AREA))
+CASE(many_area, mahqurith_append_many(RECORD, asked, RACK_A, NO_AREA))
+CASE(many_all, mahqurith_append_many(NO_ROWS, asked, NOTHING, NO_AREA))
 CASE(read_rows, mahqurith_read(NO_ROWS, asked, AREA))
 CASE(read_area, mahqurith_read(RECORD, asked, NO_AREA))
 CASE(read_all, mahqurith_read(NO_ROWS, asked, NO_AREA))
@@ -130,6 +134,10 @@ static void on_keepers(void)
     MET(append_rows, active, MAHQURITH_RECORD_NOT_SOUND);
     MET(append_area, active, MAHQURITH_AREA_TOO_SHORT);
     MET(append_all, active, MAHQURITH_AREA_TOO_SHORT);
+    MET(many_rows, active, MAHQURITH_RECORD_NOT_SOUND);
+    MET(many_list, active, MAHQURITH_LIST_OF_WRONG_LENGTH);
+    MET(many_area, active, MAHQURITH_AREA_TOO_SHORT);
+    MET(many_all, active, MAHQURITH_AREA_TOO_SHORT);
     MET(read_rows, active, MAHQURITH_RECORD_NOT_SOUND);
     MET(read_area, active, MAHQURITH_AREA_TOO_SHORT);
     MET(read_all, active, MAHQURITH_AREA_TOO_SHORT);

@@ -181,6 +181,17 @@ impl Keeper {
         self.on_ledger(sys::mahqurith_append, Asked { label: *label, entry: *entry, expected, ..Asked::default() })
     }
 
+    /// Append many: 1 to 32 entries from the expected height on, or none of them. The chip signs the one receipt, of the last.
+    pub fn append_many(&mut self, label: &Label, entries: &[Digest], expected: u64) -> Result<[u8; RECEIPT], Refusal> {
+        let asked = Asked { label: *label, expected, ..Asked::default() };
+        let list = entries.as_flattened();
+        let mut area = [0; RECEIPT];
+        accepted(unsafe {
+            sys::mahqurith_append_many(&mut self.head, self.rows.as_mut_ptr(), ROWS, asked, list.as_ptr(), list.len(), area.as_mut_ptr(), RECEIPT)
+        })?;
+        Ok(area)
+    }
+
     /// Read. The chip signs the reading.
     pub fn read(&self, label: &Label, nonce: &Nonce) -> Result<[u8; READING], Refusal> {
         let mut area = [0; READING];

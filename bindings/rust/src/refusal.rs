@@ -73,6 +73,7 @@ refusals! {
     23 StatementNotAsked "statement is not the one asked for: length, layout, kind, identity, rack digest or label",
     24 NonceDiffers "nonce differs",
     25 InputTooLong "hash input over 65,536 bytes",
+    32 ListOfWrongLength "list of 0 or more than 32",
     33 TextTooLong "text over 418 bytes",
     34 StoreFull "every block of the store is used",
     35 BlockDamaged "no undamaged block answers, and the store holds a damaged one",

@@ -187,6 +187,16 @@ extern "C" {
     ) -> Answer;
     pub fn mahqurith_new(head: *mut Head, rows: *mut Row, row_count: usize, asked: Asked, area: *mut u8, area_length: usize) -> Answer;
     pub fn mahqurith_append(head: *mut Head, rows: *mut Row, row_count: usize, asked: Asked, area: *mut u8, area_length: usize) -> Answer;
+    pub fn mahqurith_append_many(
+        head: *mut Head,
+        rows: *mut Row,
+        row_count: usize,
+        asked: Asked,
+        list: *const u8,
+        list_length: usize,
+        area: *mut u8,
+        area_length: usize,
+    ) -> Answer;
     pub fn mahqurith_read(head: *const Head, rows: *const Row, row_count: usize, asked: Asked, area: *mut u8, area_length: usize) -> Answer;
     pub fn mahqurith_append_and_read(
         head: *mut Head,

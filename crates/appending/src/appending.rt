@@ -26,7 +26,7 @@ ghost use Rattle.appending.specs.Known.{Appendable, Entered};
 ghost use Rattle.appending.specs.Tests.{ordered, append-told};
 
 // Whether a height is the next one.
-fn is_next(expected: u64, height: u64) -> bool
+pub fn is_next(expected: u64, height: u64) -> bool
     ensures { λ r. ⌜ r ≡ eqb expected (height + 1) ⌝ }
 {
     if expected == 0 {

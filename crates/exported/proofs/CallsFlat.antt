@@ -12,17 +12,18 @@ use Rattle.rules.specs.Wake.{waking}
 use Rattle.rules.specs.Initialise.{initialising}
 use Rattle.rules.specs.New.{making}
 use Rattle.rules.specs.Append.{appending}
+use Rattle.rules.specs.AppendMany.{appending-many}
 use Rattle.rules.specs.Read.{reading, appending-and-reading}
 use Rattle.rules.specs.Finalise.{finalising}
 use Rattle.rules.specs.Activate.{activating}
 use Rattle.rules.specs.Check.{checking}
-use Rattle.rules.proofs.TablesLeft.{Leaves, waking-left, initialising-left, making-left, appending-left, reading-left, appending-and-reading-left}
-use Rattle.rules.proofs.TablesLeft.{finalising-left, activating-left, checking-left}
+use Rattle.rules.proofs.TablesLeft.{Leaves, waking-left, initialising-left, making-left, appending-left, appending-many-left, reading-left}
+use Rattle.rules.proofs.TablesLeft.{appending-and-reading-left, finalising-left, activating-left, checking-left}
 use Rattle.table.specs.Flat.{flattened}
 use Rattle.table.specs.Held.{Held, over-rows}
 use Rattle.table.proofs.RowTrips.{AllTyped}
 use Rattle.table.proofs.LeftRows.{rows-left}
-use Rattle.safety.specs.Calls.{Keeper, Call, Wake, Initialise, New, Append, Read, Append-and-read, Finalise, Activate, Bytes-to-check}
+use Rattle.safety.specs.Calls.{Keeper, Call, Wake, Initialise, New, Append, Append-many, Read, Append-and-read, Finalise, Activate, Bytes-to-check}
 use Rattle.safety.specs.Calls.{lent, outcome-of, statements-in}
 use Rattle.safety.specs.Calls as rules
 use Rattle.exported.specs.Types.{hands-bytes}
@@ -57,6 +58,14 @@ by key b (Append label entry expected area) =
       held = refl;
       flatly = refl;
       leaves = λ e. appending-left (lent (flat b) area) label entry expected;
+    }
+by key b (Append-many label list expected area) =
+    record {
+      rule = λ k. appending-many k label list expected;
+      area = area;
+      held = refl;
+      flatly = refl;
+      leaves = λ e. appending-many-left (lent (flat b) area) label list expected;
     }
 by key b (Read label nonce area) =
     record { rule = λ k. reading k label nonce; area = area; held = refl; flatly = refl; leaves = λ e. reading-left (lent (flat b) area) label nonce }

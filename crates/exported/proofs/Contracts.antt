@@ -20,13 +20,14 @@ use Rattle.table.proofs.Outcomes.{held}
 use Rattle.keeper.proofs.mahqurith_wake as wake
 use Rattle.keeper.proofs.mahqurith_new as new
 use Rattle.keeper.proofs.mahqurith_append as append
+use Rattle.keeper.proofs.mahqurith_append_many as append-many
 use Rattle.keeper.proofs.mahqurith_read as read
 use Rattle.keeper.proofs.mahqurith_append_and_read as append-and-read
 use Rattle.succession.proofs.mahqurith_initialise as initialise
 use Rattle.succession.proofs.mahqurith_finalise as finalise
 use Rattle.succession.proofs.mahqurith_activate as activate
 use Rattle.succession.proofs.mahqurith_bytes_to_check as check
-use Rattle.safety.specs.Calls.{Call, Wake, Initialise, New, Append, Read, Append-and-read, Finalise, Activate, Bytes-to-check}
+use Rattle.safety.specs.Calls.{Call, Wake, Initialise, New, Append, Append-many, Read, Append-and-read, Finalise, Activate, Bytes-to-check}
 use Rattle.exported.specs.Calls.{Box, held-by}
 
 abbrev box : Head → List Row → Box
@@ -62,6 +63,13 @@ module _ {M : Type 1} (𝓤 : URA M) (H : Heap 𝓤) (A : Atoms 𝓤) (mem : Mem
       (λ κs a r e. held r (now (e .0)) (now (e .1 .0)) (now (e .1 .1 .1 .0)))
   unfolding held-by
   append-held key κs a g r e = id⊢ 𝓤 _
+
+  pub append-many-held :
+      (key : List ℕ) → Says 𝓤 append-many.ended (append-many.clauses 𝓤 H A mem run) (λ κs a. key) (λ κs a. box (now (a .0)) (now (a .1 .0)))
+      (λ κs a. Append-many (a .1 .1 .0 .label) (now (a .1 .1 .1 .0)) (a .1 .1 .0 .expected) (now (a .1 .1 .1 .1 .0)))
+      (λ κs a r e. held r (now (e .0)) (now (e .1 .0)) (now (e .1 .1 .1 .1 .0)))
+  unfolding held-by
+  append-many-held key κs a g r e = id⊢ 𝓤 _
 
   pub read-held :
       (key : List ℕ) → Says 𝓤 read.ended (read.clauses 𝓤 H A mem run) (λ κs a. key) (λ κs a. box (now (a .0)) (now (a .1 .0)))

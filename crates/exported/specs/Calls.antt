@@ -1,5 +1,5 @@
 -- What an exported call answers and leaves, and the statements that lie in the program's area for signing. Each line of `held-by` is the right side of the
--- call's own `ensures`, in `keeper/src/waking.rt`, `thin.rt` and `succession/src/passing.rt`, `finalising.rt`, `activating.rt`.
+-- call's own `ensures`, in `keeper/src/waking.rt`, `thin.rt`, `many.rt` and `succession/src/passing.rt`, `finalising.rt`, `activating.rt`.
 use mathlib.Core.Bool.{Bool, not, cond, _&&_}
 use mathlib.Core.List.{List, []}
 use Prim.Native.Nat.{ℕ}
@@ -11,6 +11,7 @@ use Rattle.rules.specs.Wake.{waking}
 use Rattle.rules.specs.Initialise.{initialising}
 use Rattle.rules.specs.New.{making}
 use Rattle.rules.specs.Append.{appending}
+use Rattle.rules.specs.AppendMany.{appending-many}
 use Rattle.rules.specs.Read.{reading, appending-and-reading}
 use Rattle.rules.specs.Finalise.{finalising}
 use Rattle.rules.specs.Activate.{activating}
@@ -18,7 +19,7 @@ use Rattle.rules.specs.Check.{checking}
 use Rattle.table.specs.declared.Row.{Row}
 use Rattle.table.specs.Flat.{flattened}
 use Rattle.table.specs.Held.{Held, over-rows}
-use Rattle.safety.specs.Calls.{Keeper, Call, Wake, Initialise, New, Append, Read, Append-and-read, Finalise, Activate, Bytes-to-check, statements-in}
+use Rattle.safety.specs.Calls.{Keeper, Call, Wake, Initialise, New, Append, Append-many, Read, Append-and-read, Finalise, Activate, Bytes-to-check, statements-in}
 
 -- what a program keeps for a keeper and lends to each call: a head, and rows, which may be any number
 pub record Box : Type 0 where
@@ -31,6 +32,7 @@ held-by key b Wake = over-rows (λ k. waking k key) (b .head) (b .rows) []
 held-by key b (Initialise identity roll previous own area) = over-rows (λ k. initialising k identity roll previous own) (b .head) (b .rows) area
 held-by key b (New label area) = over-rows (λ k. making k label) (b .head) (b .rows) area
 held-by key b (Append label entry expected area) = over-rows (λ k. appending k label entry expected) (b .head) (b .rows) area
+held-by key b (Append-many label list expected area) = over-rows (λ k. appending-many k label list expected) (b .head) (b .rows) area
 held-by key b (Read label nonce area) = over-rows (λ k. reading k label nonce) (b .head) (b .rows) area
 held-by key b (Append-and-read label entry expected nonce area) =
     over-rows (λ k. appending-and-reading k label entry expected nonce) (b .head) (b .rows) area

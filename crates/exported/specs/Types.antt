@@ -6,7 +6,7 @@ use lib.ListN.{length}
 use lib.Dec.{eqb, ltb}
 use Rattle.rows.specs.Sizes.{label-bytes, tail-bytes}
 use Rattle.table.specs.declared.Row.{Row}
-use Rattle.safety.specs.Calls.{Call, Wake, Initialise, New, Append, Read, Append-and-read, Finalise, Activate, Bytes-to-check}
+use Rattle.safety.specs.Calls.{Call, Wake, Initialise, New, Append, Append-many, Read, Append-and-read, Finalise, Activate, Bytes-to-check}
 use Rattle.safety.specs.Histories.{Event, At, Judged}
 
 unfoldable pub are-bytes : List ℕ → Bool
@@ -30,6 +30,7 @@ hands-bytes Wake = true
 hands-bytes (Initialise identity roll previous own area) = are-bytes roll
 hands-bytes (New label area) = are-bytes label
 hands-bytes (Append label entry expected area) = true
+hands-bytes (Append-many label list expected area) = true
 hands-bytes (Read label nonce area) = true
 hands-bytes (Append-and-read label entry expected nonce area) = true
 hands-bytes (Finalise next area) = true

@@ -2,5 +2,6 @@
 pub mod OtherTables
 pub mod MovedRows
 pub mod ThinCalls
+pub mod ManyCalls
 pub mod ReadCalls
 pub mod Outcomes

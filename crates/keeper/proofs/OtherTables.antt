@@ -16,6 +16,7 @@ use Rattle.rules.specs.Record.{active}
 use Rattle.rules.specs.Outcomes.{accepting, refusing, refused, given, unless}
 use Rattle.rules.specs.New.{new-refusal, making}
 use Rattle.rules.specs.Append.{append-refusal, appending}
+use Rattle.rules.specs.AppendMany.{append-many-refusal, appending-many}
 use Rattle.rules.specs.Read.{reading, appending-and-reading}
 use Rattle.rules.specs.Wake.{waking, woken}
 use Rattle.table.specs.declared.Row.{Row}
@@ -62,6 +63,10 @@ making-other head rows asked area ts n = refuses receipt-size active not-active 
 pub appending-other : RefusesOther (λ k a. appending k (a .label) (a .entry) (a .expected)) receipt-size
 unfolding appending append-refusal
 appending-other head rows asked area ts n = refuses receipt-size active not-active _ _ _ _ (unsound head rows ts n)
+
+pub appending-many-other : (list : List ℕ) → RefusesOther (λ k a. appending-many k (a .label) list (a .expected)) receipt-size
+unfolding appending-many append-many-refusal
+appending-many-other list head rows asked area ts n = refuses receipt-size active not-active _ _ _ _ (unsound head rows ts n)
 
 pub reading-other : RefusesOther (λ k a. reading k (a .label) (a .nonce)) reading-size
 unfolding reading

@@ -17,8 +17,9 @@ use Rattle.rules.specs.Outcomes.{Lent, Outcome}
 use Rattle.rules.specs.Wake.{waking}
 use Rattle.rules.specs.New.{making}
 use Rattle.rules.specs.Append.{appending}
+use Rattle.rules.specs.AppendMany.{appending-many}
 use Rattle.rules.specs.Read.{reading, appending-and-reading}
-use Rattle.rules.proofs.Refused.{Spares, waking-spares, making-spares, appending-spares, reading-spares, appending-and-reading-spares}
+use Rattle.rules.proofs.Refused.{Spares, waking-spares, making-spares, appending-spares, appending-many-spares, reading-spares, appending-and-reading-spares}
 use Rattle.table.specs.declared.Asked.{Asked}
 use Rattle.table.specs.Held.{Held}
 use Rattle.table.proofs.Outcomes.{held, One, Spared, one-outcome, refusal-spares}
@@ -26,6 +27,7 @@ use Rattle.keeper.proofs.ThinCalls.{thin-clauses}
 use Rattle.keeper.proofs.waking.mahqurith_wake as wake
 use Rattle.keeper.proofs.thin.mahqurith_new as new
 use Rattle.keeper.proofs.thin.mahqurith_append as append
+use Rattle.keeper.proofs.many.mahqurith_append_many as append-many
 use Rattle.keeper.proofs.thin.mahqurith_read as read
 use Rattle.keeper.proofs.thin.mahqurith_append_and_read as append-and-read
 
@@ -35,6 +37,13 @@ lent κs a answer = held answer (now (a .0)) (now (a .1 .0)) (now (a .1 .1 .1 .0
 
 abbrev seen : (κs : Lfts 3) → Args new.signature κs → Answer → AtExit new.ended κs → Held
 seen κs a r e = held r (now (e .0)) (now (e .1 .0)) (now (e .1 .1 .1 .0))
+
+-- of Append many, which has a list besides
+abbrev lent-with-list : (κs : Lfts 4) → Args append-many.signature κs → Answer → Held
+lent-with-list κs a answer = held answer (now (a .0)) (now (a .1 .0)) (now (a .1 .1 .1 .1 .0))
+
+abbrev seen-with-list : (κs : Lfts 4) → Args append-many.signature κs → Answer → AtExit append-many.ended κs → Held
+seen-with-list κs a r e = held r (now (e .0)) (now (e .1 .0)) (now (e .1 .1 .1 .1 .0))
 
 -- of Read, which leaves the head and the rows that it is lent
 abbrev lent-to-read : (κs : Lfts 3) → Args read.signature κs → Answer → Held
@@ -75,6 +84,16 @@ module _ {M : Type 1} (𝓤 : URA M) (H : Heap 𝓤) (A : Atoms 𝓤) (mem : Mem
   pub append-spared : Spared 𝓤 append.ended (append.clauses 𝓤 H A mem run) lent seen
   append-spared =
       thin-spared 𝓤 (λ k a. appending k (a .label) (a .entry) (a .expected)) (λ k a. appending-spares k (a .label) (a .entry) (a .expected))
+
+  pub append-many-one : One 𝓤 append-many.ended (append-many.clauses 𝓤 H A mem run) seen-with-list
+  append-many-one κs a g r r′ e e′ =
+      one-outcome 𝓤 (λ k. appending-many k (a .1 .1 .0 .label) (now (a .1 .1 .1 .0)) (a .1 .1 .0 .expected)) (now (a .0)) (now (a .1 .0))
+      (now (a .1 .1 .1 .1 .0)) _ _
+
+  pub append-many-spared : Spared 𝓤 append-many.ended (append-many.clauses 𝓤 H A mem run) lent-with-list seen-with-list
+  append-many-spared κs a g r e ts =
+      refusal-spares 𝓤 (λ k. appending-many k (a .1 .1 .0 .label) (now (a .1 .1 .1 .0)) (a .1 .1 .0 .expected)) (now (a .0)) (now (a .1 .0))
+      (now (a .1 .1 .1 .1 .0)) (appending-many-spares _ (a .1 .1 .0 .label) (now (a .1 .1 .1 .0)) (a .1 .1 .0 .expected)) ts _
 
   pub read-one : One 𝓤 read.ended (read.clauses 𝓤 H A mem run) seen-of-read
   read-one κs a g r r′ e e′ = one-outcome 𝓤 (λ k. reading k (a .1 .1 .0 .label) (a .1 .1 .0 .nonce)) (now (a .0)) (now (a .1 .0)) (now (a .1 .1 .1 .0)) _ _

@@ -13,6 +13,7 @@ ghost use Rattle.rows.specs.Sizes.{most-rows};
 ghost use Rattle.rules.specs.Outcomes.{Lent, Outcome};
 ghost use Rattle.rules.specs.New.{making};
 ghost use Rattle.rules.specs.Append.{appending};
+ghost use Rattle.rules.specs.AppendMany.{appending-many};
 ghost use Rattle.rules.specs.Read.{reading, appending-and-reading};
 ghost use Rattle.table.specs.Held.{Leaves, left-by};
 
@@ -45,6 +46,22 @@ pub fn append_left(head: Head, table: &mut [u8], asked: Asked, area: &mut [u8]) 
     let label = asked.label;
     let entry = asked.entry;
     let moved = appending::append(head, table, label, entry, asked.expected, area);
+    leave_moved(moved)
+}
+
+// Append many.
+pub fn append_many_left(
+    head: Head,
+    table: &mut [u8],
+    asked: Asked,
+    list: &[u8],
+    area: &mut [u8],
+) -> Left
+    ensures { λ r. ⌜ Leaves r (record { head = head; table = now (table .entry); area = now (area .entry) }) (now (table .exit)) (now (area .exit))
+        (appending-many (record { head = head; table = now (table .entry); area = now (area .entry) }) (asked .label) (now (list .entry)) (asked .expected)) ⌝ }
+{
+    let label = asked.label;
+    let moved = recording::append_many(head, table, label, list, asked.expected, area);
     leave_moved(moved)
 }
 

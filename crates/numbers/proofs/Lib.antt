@@ -1,3 +1,2 @@
 -- The numbers to try, proved.
-pub mod Prepared
 pub mod Tried

@@ -4,7 +4,7 @@ use mathlib.Core.Bool.{true, false, not, cond, _||_}
 use mathlib.Core.List.{List, [], _∷_, _++_, append-assoc}
 use Prim.Native.Nat.{ℕ, _+_, _<_, _≤_}
 use native.Mathlib.Omega.{arith}
-use borrow.Author.Tests.{ne-eqb, le-ltb, eqb-false}
+use borrow.Author.Tests.{ne-eqb, lt-ltb, le-ltb, eqb-false}
 use lib.ListN.{length}
 use lib.Dec.{eqb, ltb}
 use Rattle.refusals.specs.{accepted, not-active, not-blank, too-few, signature-not-valid, initialise-not-valid, not-derived}
@@ -30,9 +30,10 @@ use Rattle.rules.specs.Rows.{is-absent, row-number, sought, present-tail, prese
 use Rattle.rules.specs.Initialise.{is-in-rack, initialise-refusal, initialising}
 use Rattle.rules.specs.New.{new-refusal, making}
 use Rattle.rules.specs.Append.{append-refusal, moved-on, append-statement, appending}
+use Rattle.rules.specs.AppendMany.{entries, is-list, append-many-refusal, moved-by-all, last-statement, appending-many}
 use Rattle.rules.specs.Finalise.{finalise-size, last-words, handed-over, finalise-refusal, leaving, finalising}
 use Rattle.rules.specs.Bundle.{old-count, old-marks, new-count, new-entries}
-use Rattle.rules.specs.Derivation.{row-in, roll-of, roll-derived, kept-by-some, derived}
+use Rattle.rules.specs.Derivation.{row-in, grown, roll-of, roll-derived, kept-by-some, derived}
 use Rattle.rules.specs.Activate.{rack-size, own-roll, bundle-tests, handover-tests, acting, activating}
 use Rattle.rules.proofs.Somes.{each-all}
 use Rattle.rules.proofs.Derived.{rows-decide, lacked-by-all as lacked}
@@ -40,7 +41,7 @@ use Rattle.rules.proofs.FoundRows.{row-found, row-labelled}
 use Rattle.rules.proofs.Firsts.{sound-rows}
 use Rattle.desk.proofs.NumbersToTry.{listed-twice, one-signer, two-signers}
 use Rattle.numbers.specs.Cases.{Ready, Stands, Offered, Rest-holds, Numbers-to-try}
-use Rattle.numbers.proofs.Prepared.{lent-by, status-refuses, ready-by, comes-to, has-effect}
+use Rattle.rules.proofs.Prepared.{lent-by, status-refuses, ready-by, comes-to, has-effect}
 
 append-on-blank : (k : Lent) (label entry : List ℕ) (expected : ℕ) → Ready blank receipt-size k → appending k label entry expected ≡ refused 4 0 k
 unfolding appending append-refusal refused
@@ -91,6 +92,65 @@ module _ (k : Lent) (label entry : List ℕ) where
       (moved (k .table) (row-number (sought k label)) (appended (present-tail k label) entry) 1) (k .area)
   unfolding appending append-statement moved-on
   first-entry a = has-effect _ (present-height k label) k _ (tried 0 1 a) ∙ rw (a .height-is)
+
+-- an append of many at an active keeper, by the tests that are left
+module _ (k : Lent) (label list : List ℕ) (expected : ℕ) where
+  in-a-short-area : length (k .area) ≡ 120 → appending-many k label list expected ≡ refused 1 0 k
+  unfolding appending-many append-many-refusal readiness lending first refused
+  in-a-short-area l = comes-to _ 1 (present-height k label) k _ (rw (lt-ltb (length (k .area)) receipt-size (omega arith))) refl
+
+  unlisted : Ready active receipt-size k → is-list list ≡ false → appending-many k label list expected ≡ refused 32 0 k
+  unfolding appending-many append-many-refusal first refused
+  unlisted r l =
+      comes-to _ 32 (present-height k label) k _
+      (ready-by receipt-size k (r .room) (r .sounds) active not-active _ (r .has-status) ∙ rw l) refl
+
+  not-there : Ready active receipt-size k → is-list list ≡ true → is-absent (sought k label) ≡ true → appending-many k label list expected ≡ refused 10 0 k
+  unfolding appending-many append-many-refusal first refused
+  not-there r l a =
+      comes-to _ 10 (present-height k label) k _
+      (ready-by receipt-size k (r .room) (r .sounds) active not-active _ (r .has-status) ∙ rw (l, a)) refl
+
+  tried-many :
+      (height : ℕ) → Stands k label height → is-list list ≡ true
+      → append-many-refusal receipt-size k label list expected
+      ≡ cond (not (eqb expected (height + 1))) 11 (cond (ltb 4294967295 (height + entries list)) 12 0)
+  unfolding append-many-refusal first
+  tried-many height a l =
+      let r = a .ready in
+      ready-by receipt-size k (r .room) (r .sounds) active not-active _ (r .has-status) ∙ rw (l, a .known, a .height-is)
+
+-- lists of none, of 33 and of 31 bytes
+of-none : is-list [] ≡ false
+unfolding is-list
+of-none = refl
+
+of-33 : (list : List ℕ) → length list ≡ 1056 → is-list list ≡ false
+unfolding is-list
+of-33 list l = rw l
+
+of-31-bytes : (list : List ℕ) → length list ≡ 31 → is-list list ≡ false
+unfolding is-list
+of-31-bytes list l = rw l
+
+module _ (k : Lent) (label list : List ℕ) where
+  too-high : Stands k label 7 → is-list list ≡ true → appending-many k label list 9 ≡ refused 11 7 k
+  unfolding appending-many refused
+  too-high a l = comes-to _ 11 (present-height k label) k _ (tried-many k label list 9 7 a l) refl ∙ rw (a .height-is)
+
+  passes-the-top : Stands k label 4294967293 → length list ≡ 96 → appending-many k label list 4294967294 ≡ refused 12 0 k
+  unfolding appending-many is-list refused
+  passes-the-top a l =
+      comes-to _ 12 (present-height k label) k _ (tried-many k label list 4294967294 4294967293 a (rw l) ∙ rw l) refl
+
+  reaches-the-top :
+      Stands k label 4294967293 → length list ≡ 64
+      → appending-many k label list 4294967294
+      ≡ given (statement-written (receipt-of (k .head) (Append 4294967295) label (grown (present-tail k label) list 2))) (k .head)
+      (moved (k .table) (row-number (sought k label)) (grown (present-tail k label) list 2) 4294967295) (k .area)
+  unfolding appending-many is-list last-statement moved-by-all
+  reaches-the-top a l =
+      has-effect _ (present-height k label) k _ (tried-many k label list 4294967294 4294967293 a (rw l) ∙ rw l) ∙ rw (a .height-is, l)
 
 -- a record stays sound when its keeper hands over
 still-sound : (h : Head) (table next : List ℕ) → sound h table ≡ true → sound (handed-over h next) table ≡ true
@@ -190,6 +250,14 @@ tried-all =
       roll-alone = roll-alone;
       lacking-one = λ k previous own s i j r o h h' l lacks has rest. lacking-one k previous own s o rest;
       lacked-by-all = λ k previous own s r o. lacked-by-all k previous own s o r;
+      many-in-a-short-area = in-a-short-area;
+      many-of-none = λ k label expected r. unlisted k label [] expected r of-none;
+      many-of-33 = λ k label list expected r l. unlisted k label list expected r (of-33 list l);
+      many-of-31-bytes = λ k label list expected r l. unlisted k label list expected r (of-31-bytes list l);
+      many-of-no-ledger = not-there;
+      many-too-high = too-high;
+      last-passes-the-top = passes-the-top;
+      last-reaches-the-top = reaches-the-top;
       own-rack-of-two = own-rack-of-two;
       next-rack-of-two = next-rack-of-two;
     }

@@ -3,7 +3,7 @@
 use mathlib.Core.Path.{_≡_}
 use mathlib.Core.Bool.{true, false}
 use mathlib.Core.List.{List, [], _∷_}
-use Prim.Native.Nat.{ℕ, _<_, _≤_}
+use Prim.Native.Nat.{ℕ, _*_, _<_, _≤_}
 use lib.ListN.{length}
 use Rattle.refusals.specs.{accepted, signature-not-valid, initialise-not-valid}
 use Rattle.refusals.specs.Order.{first}
@@ -23,9 +23,10 @@ use Rattle.rules.specs.Rows.{is-absent, row-number, sought, present-tail, prese
 use Rattle.rules.specs.Initialise.{is-in-rack, initialising}
 use Rattle.rules.specs.New.{making}
 use Rattle.rules.specs.Append.{appending}
+use Rattle.rules.specs.AppendMany.{is-list, appending-many}
 use Rattle.rules.specs.Finalise.{finalise-size, last-words, handed-over, finalising}
 use Rattle.rules.specs.Bundle.{old-count, old-marks, new-count, new-entries, added, digests, list-of}
-use Rattle.rules.specs.Derivation.{row-in, no-more, row-derived, roll-of, kept-by-some}
+use Rattle.rules.specs.Derivation.{row-in, no-more, grown, row-derived, roll-of, kept-by-some}
 use Rattle.rules.specs.Activate.{rack-size, own-roll, bundle-tests, acting, activating}
 use Rattle.marks.specs.Entries.{marks-tests, pair-marks}
 use Rattle.desk.specs.Verdict.{Question, is-asked-for, has-other-nonce, nothing-shown, shown, judging}
@@ -116,6 +117,25 @@ pub record Numbers-to-try : Type 0 where
   pub lacked-by-all :
       (k : Lent) (previous own s : List ℕ) (r : ℕ) → Offered k previous own s → r < k .head .count
       → ((i : ℕ) → i < old-count s → is-absent (row-in (roll-of s i) (own-roll k) r) ≡ true) → activating k previous own s ≡ refused 20 0 k
+  -- 02, M-100: "32 for a list of 0 or more than 32, after 4; 12 if any entry would pass the top; otherwise append's order": an area one byte short; an empty
+  -- list, one of 33, one of 31 bytes, whatever the label; a ledger that is not there; another height; the top passed by the last entry alone
+  pub many-in-a-short-area : (k : Lent) (label list : List ℕ) (expected : ℕ) → length (k .area) ≡ 120 → appending-many k label list expected ≡ refused 1 0 k
+  pub many-of-none : (k : Lent) (label : List ℕ) (expected : ℕ) → Ready active receipt-size k → appending-many k label [] expected ≡ refused 32 0 k
+  pub many-of-33 :
+      (k : Lent) (label list : List ℕ) (expected : ℕ) → Ready active receipt-size k → length list ≡ 33 * 32 → appending-many k label list expected ≡ refused 32 0 k
+  pub many-of-31-bytes :
+      (k : Lent) (label list : List ℕ) (expected : ℕ) → Ready active receipt-size k → length list ≡ 31 → appending-many k label list expected ≡ refused 32 0 k
+  pub many-of-no-ledger :
+      (k : Lent) (label list : List ℕ) (expected : ℕ) → Ready active receipt-size k → is-list list ≡ true → is-absent (sought k label) ≡ true
+      → appending-many k label list expected ≡ refused 10 0 k
+  pub many-too-high : (k : Lent) (label list : List ℕ) → Stands k label 7 → is-list list ≡ true → appending-many k label list 9 ≡ refused 11 7 k
+  pub last-passes-the-top :
+      (k : Lent) (label list : List ℕ) → Stands k label 4294967293 → length list ≡ 3 * 32 → appending-many k label list 4294967294 ≡ refused 12 0 k
+  pub last-reaches-the-top :
+      (k : Lent) (label list : List ℕ) → Stands k label 4294967293 → length list ≡ 2 * 32
+      → appending-many k label list 4294967294
+      ≡ given (statement-written (receipt-of (k .head) (Append 4294967295) label (grown (present-tail k label) list 2))) (k .head)
+      (moved (k .table) (row-number (sought k label)) (grown (present-tail k label) list 2) 4294967295) (k .area)
   -- 02, M-107: "38 directly after 6 for the own rack in Initialise and for the next rack in Finalise": before 7 and 8, founding too
   pub own-rack-of-two :
       (k : Lent) (identity roll previous own : List ℕ) → Ready blank handover-size k → holds rack-layout own ≡ true → is-of-two own ≡ true

@@ -3,7 +3,7 @@ use mathlib.Core.Path.{_≡_, refl, sym, ap, _∙_}
 use mathlib.Core.Bool.{Bool, true, false, not, cond, _&&_}
 use mathlib.Core.List.{List, [], _∷_, _++_}
 use Prim.Native.Nat.{ℕ}
-use borrow.Author.Tests.{eq-eqb, ne-eqb, eqb-true, eqb-false}
+use borrow.Author.Tests.{eq-eqb, ne-eqb, eqb-true, eqb-false, not-true}
 use lib.Dec.{eqb}
 use Rattle.refusals.specs.{accepted}
 use Rattle.refusals.specs.Order.{Test, _⇒_, first}
@@ -69,3 +69,20 @@ refuses b n ts e = rw e
 pub lets-by : (b : Bool) (n : ℕ) (ts : List Test) → b ≡ false → first ((b ⇒ n) ∷ ts) ≡ first ts
 unfolding first
 lets-by b n ts e = rw e
+
+-- no test has the number m
+unfoldable pub lacks : ℕ → List Test → Bool
+lacks m [] = not (eqb accepted m)
+lacks m (t ∷ ts) = not (eqb (t .number) m) && lacks m ts
+
+either : (b : Bool) (x y m : ℕ) → eqb x m ≡ false → eqb y m ≡ false → eqb (cond b x y) m ≡ false
+either true x y m p q = p
+either false x y m p q = q
+
+-- so it is not the answer
+pub lacking : (m : ℕ) (ts : List Test) → lacks m ts ≡ true → eqb (first ts) m ≡ false
+unfolding first lacks
+lacking m [] h = not-true (eqb accepted m) h
+lacking m (t ∷ ts) h =
+    let p = split-and (not (eqb (t .number) m)) (lacks m ts) h in
+    either (t .holds) (t .number) (first ts) m (not-true (eqb (t .number) m) (p .0)) (lacking m ts (p .1))

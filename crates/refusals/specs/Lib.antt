@@ -106,6 +106,10 @@ nonce-differs = 24
 abbrev pub input-too-long : ℕ
 input-too-long = 25
 
+-- list of 0 or more than 32
+abbrev pub list-of-wrong-length : ℕ
+list-of-wrong-length = 32
+
 -- text over 418 bytes
 abbrev pub text-too-long : ℕ
 text-too-long = 33

@@ -78,6 +78,9 @@ pub const NONCE_DIFFERS: u32 = 24;
 // Hash input over 65,536 bytes.
 pub const INPUT_TOO_LONG: u32 = 25;
 
+// List of 0 or more than 32.
+pub const LIST_OF_WRONG_LENGTH: u32 = 32;
+
 // Text over 418 bytes.
 pub const TEXT_TOO_LONG: u32 = 33;
 

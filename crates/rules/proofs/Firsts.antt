@@ -9,7 +9,7 @@ use lib.Dec.{eqb, leb, ltb}
 use Rattle.refusals.specs.{accepted, area-too-short, record-not-sound}
 use Rattle.refusals.specs.Order.{Test, _⇒_, first}
 use Rattle.refusals.proofs.Orders.{numbered, stops, goes-on, passes}
-use Rattle.octets.proofs.RoundTrips.{and-right}
+use Rattle.octets.proofs.RoundTrips.{and-left, and-right}
 use Rattle.rows.specs.Table.{rows-fit}
 use Rattle.rules.specs.declared.Head.{Head}
 use Rattle.rules.specs.Record.{blank, finalised, sound}
@@ -56,6 +56,11 @@ ready size status number k ts refuses e =
 pub sound-rows : (h : Head) (table : List ℕ) → sound h table ≡ true → rows-fit (h .count) table ≡ true
 unfolding sound
 sound-rows h table e = and-right (leb (h .status) finalised && cond (eqb (h .status) blank) (eqb (h .count) 0) true) (rows-fit (h .count) table) e
+
+-- another table of a roll leaves a record sound
+pub sound-again : (h : Head) (t u : List ℕ) → sound h t ≡ true → rows-fit (h .count) u ≡ true → sound h u ≡ true
+unfolding sound
+sound-again h t u e fit = rw (and-left (leb (h .status) finalised && cond (eqb (h .status) blank) (eqb (h .count) 0) true) (rows-fit (h .count) t) e) fit
 
 turned : (b : Bool) (n : ℕ) → cond (not b) n accepted ≡ cond b accepted n
 turned true n = refl

@@ -1,24 +1,31 @@
 -- Laws of the row that a search finds: where it is, and that it keeps the rules of a row. Assumes nothing.
-use mathlib.Core.Path.{_≡_, refl}
+use mathlib.Core.Path.{_≡_, refl, ap₂}
 use mathlib.Core.Bool.{true, false, not, cond, _&&_}
 use mathlib.Core.List.{List}
-use Prim.Native.Nat.{ℕ, _+_, _≤_, _<_}
+use Prim.Native.Nat.{ℕ, zero, suc, _+_, _≤_, _<_}
 use native.Mathlib.Omega.{arith}
 use borrow.Author.Tests.{leb-true, le-leb, ne-eqb, not-true}
 use lib.Dec.{eqb, leb}
-use Rattle.octets.specs.Strings.{all-zero}
+use Rattle.octets.specs.Strings.{all-zero, same}
 use Rattle.octets.proofs.RoundTrips.{and-left, and-right}
 use Rattle.rows.specs.Sizes.{top-height}
 use Rattle.rows.specs.Row.{label-of, tail-of, height-of, row-holds, row-fits}
 use Rattle.rows.specs.Table.{rises, stands, rows-fit}
-use Rattle.rows.specs.Search.{find}
+use Rattle.rows.specs.Search.{or-else, first-of, find}
 use Rattle.rows.specs.declared.Found.{Found}
 use Rattle.rows.specs.declared.Found.the-variants.{At, Absent}
 use Rattle.rows.proofs.Tables.{each-of, fit-stands}
 use Rattle.rows.proofs.Searches.{found-is}
 use Rattle.rules.specs.Rows.{is-absent, row-number}
 
-stands-row : (rows : List ℕ) (i : ℕ) → stands rows i ≡ true → row-holds (label-of rows i) (tail-of rows i) (height-of rows i) ≡ true
+-- the search goes by the labels alone
+pub first-same : (a b label : List ℕ) (n : ℕ) → ((j : ℕ) → j < n → label-of a j ≡ label-of b j) → first-of n a label ≡ first-of n b label
+unfolding first-of
+first-same a b label zero e = refl
+first-same a b label (suc n) e =
+    ap₂ (λ (f : Found) (l : List ℕ). or-else f (cond (same l label) (At n) Absent)) (first-same a b label n (λ j h. e j (omega arith))) (e n (omega arith))
+
+pub stands-row : (rows : List ℕ) (i : ℕ) → stands rows i ≡ true → row-holds (label-of rows i) (tail-of rows i) (height-of rows i) ≡ true
 unfolding row-fits stands
 stands-row rows i e = and-left (row-fits rows i) (rises rows i) e
 

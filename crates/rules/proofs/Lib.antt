@@ -11,3 +11,7 @@ pub mod Derived
 pub mod Activated
 pub mod TablesChanged
 pub mod TablesLeft
+pub mod RowsParts
+pub mod RowsMoved
+pub mod Prepared
+pub mod OneByOne

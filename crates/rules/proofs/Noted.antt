@@ -1,13 +1,14 @@
--- What an accepted New, Append and Read have: the keeper is active, and the row is there or is not. Assumes nothing.
+-- What an accepted New, Append, Append many and Read have: the keeper is active, and the row is there or is not. Assumes nothing.
 use mathlib.Core.Path.{_≡_, refl, sym, ap, _∙_}
-use mathlib.Core.Bool.{Bool, true, false, not}
+use mathlib.Core.Bool.{Bool, true, false, not, _&&_}
 use mathlib.Core.List.{List, [], _∷_, _++_}
-use Prim.Native.Nat.{ℕ, _+_, _*_, _≤_, _<_}
+use Prim.Native.Nat.{ℕ, _+_, _*_, _%_, _≤_, _<_}
 use native.Mathlib.Omega.{arith}
-use borrow.Author.Tests.{eqb-false}
+use borrow.Author.Tests.{eqb-false, ltb-false, leb-true, not-false}
 use lib.ListN.{length}
-use lib.Dec.{eqb}
+use lib.Dec.{eqb, leb, ltb}
 use Rattle.octets.specs.Strings.{all-zero}
+use Rattle.octets.proofs.RoundTrips.{and-left, and-right}
 use Rattle.rows.specs.declared.Found.{Found}
 use Rattle.rows.specs.declared.Found.the-variants.{At, Absent}
 use Rattle.rows.specs.Sizes.{top-height, row-bytes, table-bytes, most-rows}
@@ -15,15 +16,16 @@ use Rattle.rows.specs.Row.{row-holds}
 use Rattle.rows.specs.Table.{rows-fit}
 use Rattle.rows.proofs.Tables.{fit-length, fit-count}
 use Rattle.rows.proofs.Searches.{found-is}
-use Rattle.statement.specs.Kinds.{receipt-size, reading-size}
+use Rattle.statement.specs.Kinds.{digest-bytes, receipt-size, reading-size}
 use Rattle.rules.specs.Record.{active}
 use Rattle.rules.specs.Outcomes.{Lent, readiness}
 use Rattle.rules.specs.Rows.{is-absent, row-number, sought, present-tail, present-height}
 use Rattle.rules.proofs.Firsts.{Ready, sound-rows, ready}
-use Rattle.refusals.specs.{accepted, label-zero, ledger-exists, table-full, not-active, no-such-ledger, out-of-order, height-at-top}
+use Rattle.refusals.specs.{accepted, label-zero, ledger-exists, table-full, not-active, list-of-wrong-length, no-such-ledger, out-of-order, height-at-top}
 use Rattle.refusals.proofs.Orders.{passes}
 use Rattle.rules.specs.New.{new-refusal}
 use Rattle.rules.specs.Append.{append-refusal}
+use Rattle.rules.specs.AppendMany.{most-entries, entries, is-list, append-many-refusal}
 use Rattle.refusals.specs.Order.{_⇒_, first}
 use Rattle.rules.proofs.FoundRows.{row-found, row-below}
 
@@ -100,6 +102,32 @@ appendable size k label expected e =
     let has = rowed size k label (r .0) (a .0) in
     let top : (present-height k label ≡ top-height → ⊥) = eqb-false (present-height k label) top-height (c .0) in
     record { has = has; below-top = omega (arith, row-below label (present-tail k label) (present-height k label) (has .holds)) }
+
+pub listed-some : (list : List ℕ) → is-list list ≡ true → 1 ≤ entries list
+unfolding is-list
+listed-some list e =
+    leb-true 1 (entries list)
+    (and-right (eqb (length list % digest-bytes) 0) (leb 1 (entries list))
+    (and-left (eqb (length list % digest-bytes) 0 && leb 1 (entries list)) (leb (entries list) most-entries) e))
+
+pub record Recordable (k : Lent) (label list : List ℕ) : Type 0 where
+  pub has : Rowed k label
+  pub some : 1 ≤ entries list
+  pub below-top : present-height k label + entries list ≤ top-height
+
+pub recordable : (size : ℕ) (k : Lent) (label list : List ℕ) (expected : ℕ) → append-many-refusal size k label list expected ≡ accepted → Recordable k label list
+unfolding append-many-refusal
+recordable size k label list expected e =
+    let r = ready size active not-active k _ (eqb-false 4 0 refl) e in
+    let l = passes (not (is-list list)) list-of-wrong-length _ (eqb-false 32 0 refl) (r .1) in
+    let a = passes (is-absent (sought k label)) no-such-ledger _ (eqb-false 10 0 refl) (l .1) in
+    let b = passes (not (eqb expected (present-height k label + 1))) out-of-order _ (eqb-false 11 0 refl) (a .1) in
+    let c = passes (ltb top-height (present-height k label + entries list)) height-at-top _ (eqb-false 12 0 refl) (b .1) in
+    record {
+      has = rowed size k label (r .0) (a .0);
+      some = listed-some list (not-false (is-list list) (l .0));
+      below-top = ltb-false top-height (present-height k label + entries list) (c .0);
+    }
 
 pub readable :
     (k : Lent) (label : List ℕ) → first (readiness reading-size active not-active k ++ (is-absent (sought k label) ⇒ no-such-ledger) ∷ []) ≡ accepted → Rowed k label

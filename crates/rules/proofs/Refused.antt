@@ -1,5 +1,5 @@
 -- A refused call: it says its number and leaves all that it was lent. 01: "A refusal returns its number (11 also the height) and changes nothing lent." Assumes nothing.
-use mathlib.Core.Path.{_≡_, refl, ap, _∙_}
+use mathlib.Core.Path.{_≡_, refl, sym, ap, _∙_}
 use mathlib.Core.Bool.{Bool, true, false, cond}
 use mathlib.Core.List.{List}
 use Prim.Native.Nat.{ℕ}
@@ -13,6 +13,7 @@ use Rattle.rules.specs.Wake.{waking}
 use Rattle.rules.specs.Initialise.{absent, entered, initialising}
 use Rattle.rules.specs.New.{making}
 use Rattle.rules.specs.Append.{appending}
+use Rattle.rules.specs.AppendMany.{appending-many}
 use Rattle.rules.specs.Read.{reading, appending-and-reading}
 use Rattle.rules.specs.Finalise.{leaving, finalising}
 use Rattle.rules.specs.Activate.{activating}
@@ -39,6 +40,15 @@ module _ (n height : ℕ) (k : Lent) where
   pub refused-says : refused n height k .answer .number ≡ n
   unfolding refused
   refused-says = refl
+
+-- a rule with one effect says the number that its tests come to
+pub unless-says : (n height : ℕ) (k : Lent) (bytes : List ℕ) (head : Head) (table area : List ℕ) → unless n height k (given bytes head table area) .answer .number ≡ n
+unfolding given
+unless-says n height k bytes head table area = go (ends n height k (given bytes head table area))
+  where
+    go : Ends n height k (given bytes head table area) (unless n height k (given bytes head table area)) → unless n height k (given bytes head table area) .answer .number ≡ n
+    go (stopped some e) = ap (λ (o : Outcome). o .answer .number) e ∙ refused-says n height k
+    go (went none e) = ap (λ (o : Outcome). o .answer .number) e ∙ sym none
 
 pub out-of-order-tells : (height : ℕ) (k : Lent) → refused out-of-order height k .answer .height ≡ height
 unfolding refused
@@ -89,6 +99,10 @@ module _ (k : Lent) where
   pub appending-spares : (label entry : List ℕ) (expected : ℕ) → Spares k (appending k label entry expected)
   unfolding appending
   appending-spares label entry expected = does-spares _ _ _ _ _ _
+
+  pub appending-many-spares : (label list : List ℕ) (expected : ℕ) → Spares k (appending-many k label list expected)
+  unfolding appending-many
+  appending-many-spares label list expected = does-spares _ _ _ _ _ _
 
   pub reading-spares : (label nonce : List ℕ) → Spares k (reading k label nonce)
   unfolding reading

@@ -2,7 +2,8 @@
 use mathlib.Core.Path.{_≡_, refl, sym, ap, subst, _∙_}
 use mathlib.Core.Bool.{Bool, true, false, not, cond, _&&_}
 use mathlib.Core.List.{List, [], _∷_, _++_}
-use Prim.Native.Nat.{ℕ}
+use Prim.Native.Nat.{ℕ, zero, suc, _≤_}
+use native.Mathlib.Omega.{arith}
 use borrow.Author.Tests.{eqb-true, eqb-false, not-false}
 use lib.ListN.{length, length-replicate}
 use lib.Dec.{eqb}
@@ -12,7 +13,7 @@ use Rattle.octets.specs.Layouts.{holds}
 use Rattle.octets.proofs.Exact.{Octets}
 use Rattle.octets.proofs.Bytes.{octets-zeros}
 use Rattle.hash.proofs.Promised.{sha256-length, sha256-octets}
-use Rattle.rows.specs.Sizes.{table-bytes}
+use Rattle.rows.specs.Sizes.{tail-bytes, table-bytes}
 use Rattle.rows.specs.Digests.{append-mark, appended}
 use Rattle.rows.proofs.Tables.{fit-length}
 use Rattle.roll.specs.Roll.{roll-layout}
@@ -21,10 +22,12 @@ use Rattle.rules.specs.declared.Head.{Head}
 use Rattle.rules.specs.Record.{finalised}
 use Rattle.rules.specs.Outcomes.{Lent, Outcome, given, again, unless}
 use Rattle.rules.specs.Rows.{present-tail}
+use Rattle.rules.specs.Derivation.{grown}
 use Rattle.rules.specs.Wake.{waking}
 use Rattle.rules.specs.Initialise.{absent, initialise-refusal, entered, initialising}
 use Rattle.rules.specs.New.{new-refusal, making}
 use Rattle.rules.specs.Append.{append-refusal, next-tail, next-height, moved-on, appending}
+use Rattle.rules.specs.AppendMany.{entries, append-many-refusal, last-tail, last-height, moved-by-all, appending-many}
 use Rattle.rules.specs.Read.{reading, appending-and-reading}
 use Rattle.rules.specs.Finalise.{leaving, finalising}
 use Rattle.rules.specs.Activate.{activating}
@@ -32,7 +35,7 @@ use Rattle.rules.specs.Check.{checking}
 use Rattle.rules.proofs.Firsts.{sound-rows}
 use Rattle.rules.proofs.Refused.{Ends, stopped, went, ends, refused-leaves}
 use Rattle.rules.proofs.Initialised.{initialisable}
-use Rattle.rules.proofs.Noted.{row-of, makeable, appendable}
+use Rattle.rules.proofs.Noted.{row-of, makeable, appendable, recordable}
 use Rattle.rules.proofs.TablesChanged.{widened-length, widened-octets, moved-length, moved-octets}
 
 -- a table as 63 rows have it
@@ -53,6 +56,16 @@ leaves-whole (changes l m o) w = record { long = m; bytes = o (w .bytes) }
 present : (a b : Bool) → a ≡ false → (not a && not b) ≡ false → b ≡ true
 present true b e f = let z : _≡_ {A = Bool} true false = e in cc
 present false b e f = not-false b f
+
+-- a tail after entries is a digest
+pub record Digest (t : List ℕ) : Type 0 where
+  pub long : length t ≡ tail-bytes
+  pub bytes : Octets t
+
+pub grown-digest : (tail list : List ℕ) (n : ℕ) → 1 ≤ n → Digest (grown tail list n)
+unfolding grown appended
+grown-digest tail list zero h = absurd (omega arith)
+grown-digest tail list (suc n) h = record { long = sha256-length _; bytes = sha256-octets _ }
 
 module _ (k : Lent) where
   -- what a rule does with the table that it is lent
@@ -93,6 +106,16 @@ module _ (k : Lent) where
       changes (has .long) (moved-length (k .table) i tail (next-height k label) (sha256-length digested) (has .within) ∙ has .long)
       (λ o. moved-octets (k .table) i tail (next-height k label) o (sha256-octets digested))
 
+  moved-by-all-left :
+      (size : ℕ) (label list : List ℕ) (expected : ℕ) → append-many-refusal size k label list expected ≡ accepted → Leaves (k .table) (moved-by-all k label list)
+  unfolding moved-by-all
+  moved-by-all-left size label list expected none =
+      let i : ℕ = row-of k label in
+      let r = recordable size k label list expected none in
+      let d = grown-digest (present-tail k label) list (entries list) (r .some) in
+      changes (r .has .long) (moved-length (k .table) i (last-tail k label list) (last-height k label list) (d .long) (r .has .within) ∙ r .has .long)
+      (λ o. moved-octets (k .table) i (last-tail k label list) (last-height k label list) o (d .bytes))
+
   pub waking-left : (key : List ℕ) → Left (waking k key)
   unfolding waking
   waking-left key =
@@ -123,6 +146,10 @@ module _ (k : Lent) where
   pub appending-left : (label entry : List ℕ) (expected : ℕ) → Left (appending k label entry expected)
   unfolding appending
   appending-left label entry expected = unless-left _ _ _ (λ none. given-left _ _ _ _ (moved-left _ label entry expected none))
+
+  pub appending-many-left : (label list : List ℕ) (expected : ℕ) → Left (appending-many k label list expected)
+  unfolding appending-many
+  appending-many-left label list expected = unless-left _ _ _ (λ none. given-left _ _ _ _ (moved-by-all-left _ label list expected none))
 
   pub reading-left : (label nonce : List ℕ) → Left (reading k label nonce)
   unfolding reading

@@ -13,7 +13,7 @@ use Rattle.rack.specs.Racks.{rack-string}
 use Rattle.statement.specs.Kinds.{digest-bytes, label-bytes}
 use Rattle.statement.specs.Cut.{cut-statement}
 use Rattle.desk.specs.Verdict.{Question, signer-count, judging}
-use Rattle.safety.specs.Calls.{Keeper, Call, Wake, Initialise, New, Append, Read, Append-and-read, Finalise, Activate, Bytes-to-check, accepts, is-wake, sized}
+use Rattle.safety.specs.Calls.{Keeper, Call, Wake, Initialise, New, Append, Append-many, Read, Append-and-read, Finalise, Activate, Bytes-to-check, accepts, is-wake, sized}
 use Rattle.safety.specs.Histories.{Event, At, Judged, keeper-after, in-order, orderly, _∈_, at-front, listed}
 use Rattle.safety.specs.Chip.{Claim, signer-claim, claims-by, claims, Honest, Honest-chip, at-first, and-then}
 use Rattle.safety.specs.Hashed.{hashed-by, hashed-at}
@@ -23,6 +23,7 @@ use Rattle.safety.proofs.Vows.{vowed}
 use Rattle.safety.proofs.SeenInitialise.{seen-initialise}
 use Rattle.safety.proofs.SeenNew.{seen-new}
 use Rattle.safety.proofs.SeenAppend.{seen-append}
+use Rattle.safety.proofs.SeenAppendMany.{seen-append-many}
 use Rattle.safety.proofs.SeenRead.{seen-read, seen-append-and-read}
 use Rattle.safety.proofs.SeenFinalise.{seen-finalise}
 use Rattle.safety.proofs.SeenActivate.{seen-activate}
@@ -75,6 +76,7 @@ module _ (keepers : List (List ℕ)) (start : List ℕ → Keeper) where
           seen-initialise _ _ key k identity roll previous own area (eqb-true (length identity) digest-bytes t)
       seen (New label area) e t m = seen-new _ _ key k label area whole (eqb-true (length label) label-bytes t)
       seen (Append label entry expected area) e t m = seen-append _ _ key k label entry expected area whole (eqb-true (length label) label-bytes t)
+      seen (Append-many label list expected area) e t m = seen-append-many _ _ key k label list expected area whole (eqb-true (length label) label-bytes t)
       seen (Read label nonce area) e t m = seen-read _ _ key k whole label (eqb-true (length label) label-bytes t) nonce area
       seen (Append-and-read label entry expected nonce area) e t m =
           seen-append-and-read _ _ key k whole label (eqb-true (length label) label-bytes t) entry expected nonce area

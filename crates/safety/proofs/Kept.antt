@@ -20,12 +20,13 @@ use Rattle.rules.specs.Wake.{woken, waking}
 use Rattle.rules.specs.Initialise.{absent, founded, preparing, entered, initialising}
 use Rattle.rules.specs.New.{making}
 use Rattle.rules.specs.Append.{appending}
+use Rattle.rules.specs.AppendMany.{appending-many}
 use Rattle.rules.specs.Read.{reading, appending-and-reading}
 use Rattle.rules.specs.Finalise.{last-words, handed-over, finalise-refusal, leaving, finalising}
 use Rattle.rules.specs.Activate.{activating}
 use Rattle.rules.specs.Check.{checking}
 use Rattle.rules.proofs.Refused.{Ends, stopped, went, ends}
-use Rattle.safety.specs.Calls.{Keeper, Call, Wake, Initialise, New, Append, Read, Append-and-read, Finalise, Activate, Bytes-to-check}
+use Rattle.safety.specs.Calls.{Keeper, Call, Wake, Initialise, New, Append, Append-many, Read, Append-and-read, Finalise, Activate, Bytes-to-check}
 use Rattle.safety.specs.Calls.{lent, outcome-of, left-by, accepts, statements-in, is-wake, sized}
 use Rattle.safety.specs.Histories.{Event, At, Judged, keeper-after, called, in-order, orderly}
 use Rattle.safety.proofs.Views.{Waking}
@@ -103,12 +104,13 @@ module _ (key : List ℕ) (k : Keeper) (whole : Whole (k .head)) where
   ended-whole next area false = leaving-whole next area
 
   keeps-outcome : (call : Call) → is-wake call ≡ false → sized call ≡ true → Whole (outcome-of key k call .left .head)
-  unfolding outcome-of initialising making appending reading appending-and-reading finalising activating checking given is-wake sized
+  unfolding outcome-of initialising making appending appending-many reading appending-and-reading finalising activating checking given is-wake sized
   keeps-outcome Wake e t = let z : _≡_ {A = Bool} true false = e in let y : _≡_ {A = ℕ} 0 1 = cc in absurd (omega arith)
   keeps-outcome (Initialise identity roll previous own area) e t =
       keeps-unless (Initialise identity roll previous own area) _ 0 area _ (entered-whole identity roll previous own area (absent roll) (eqb-true (length identity) digest-bytes t)) refl
   keeps-outcome (New label area) e t = keeps-unless (New label area) _ 0 area _ (same-whole _ refl refl refl) refl
   keeps-outcome (Append label entry expected area) e t = keeps-unless (Append label entry expected area) _ _ area _ whole refl
+  keeps-outcome (Append-many label list expected area) e t = keeps-unless (Append-many label list expected area) _ _ area _ whole refl
   keeps-outcome (Read label nonce area) e t = keeps-unless (Read label nonce area) _ 0 area _ whole refl
   keeps-outcome (Append-and-read label entry expected nonce area) e t = keeps-unless (Append-and-read label entry expected nonce area) _ _ area _ whole refl
   keeps-outcome (Finalise next area) e t = keeps-unless (Finalise next area) _ 0 area _ (ended-whole next area (eqb (k .head .status) finalised)) refl
@@ -126,6 +128,7 @@ only-wake Wake e = refl
 only-wake (Initialise identity roll previous own area) e = let z : _≡_ {A = Bool} false true = e in cc
 only-wake (New label area) e = let z : _≡_ {A = Bool} false true = e in cc
 only-wake (Append label entry expected area) e = let z : _≡_ {A = Bool} false true = e in cc
+only-wake (Append-many label list expected area) e = let z : _≡_ {A = Bool} false true = e in cc
 only-wake (Read label nonce area) e = let z : _≡_ {A = Bool} false true = e in cc
 only-wake (Append-and-read label entry expected nonce area) e = let z : _≡_ {A = Bool} false true = e in cc
 only-wake (Finalise next area) e = let z : _≡_ {A = Bool} false true = e in cc

@@ -6,8 +6,6 @@ pub mod Tales
 pub mod Members
 pub mod Ended
 pub mod Sizes
-pub mod RowsParts
-pub mod RowsMoved
 pub mod RowsWidened
 pub mod Looks
 pub mod LooksChanged
@@ -18,6 +16,7 @@ pub mod Vows
 pub mod SeenInitialise
 pub mod SeenNew
 pub mod SeenAppend
+pub mod SeenAppendMany
 pub mod SeenRead
 pub mod SeenFinalise
 pub mod SeenActivate

@@ -1,5 +1,5 @@
--- Laws of what a roll shows of a label: where the labels of two tables agree, and where a row is first. Assumes nothing.
-use mathlib.Core.Path.{_≡_, refl, ap, ap₂, subst, _∙_}
+-- Laws of what a roll shows of a label: where a row is first, and where it stands. Assumes nothing.
+use mathlib.Core.Path.{_≡_, refl, ap, subst, _∙_}
 use mathlib.Core.Bool.{Bool, true, false, cond}
 use mathlib.Core.List.{List}
 use Prim.Native.Nat.{ℕ, zero, suc, _<_}
@@ -13,13 +13,6 @@ use Rattle.rows.specs.Search.{or-else, first-of, find}
 use Rattle.rows.proofs.Searches.{first-found}
 use Rattle.roll.specs.Roll.{Roll}
 use Rattle.safety.proofs.Views.{standing, seen-at, look, Reaches, Grows}
-
--- the search goes by the labels alone
-pub first-same : (a b label : List ℕ) (n : ℕ) → ((j : ℕ) → j < n → label-of a j ≡ label-of b j) → first-of n a label ≡ first-of n b label
-unfolding first-of
-first-same a b label zero e = refl
-first-same a b label (suc n) e =
-    ap₂ (λ (f : Found) (l : List ℕ). or-else f (cond (same l label) (At n) Absent)) (first-same a b label n (λ j h. e j (omega arith))) (e n (omega arith))
 
 module _ (rows label : List ℕ) where
   -- the row that is found is the first

@@ -2,7 +2,7 @@
 use mathlib.Core.Path.{_≡_, sym, ap, ap₂, _∙_}
 use mathlib.Core.Bool.{true}
 use mathlib.Core.List.{List}
-use Prim.Native.Nat.{ℕ, zero, suc, min, _+_, _*_, _/_, _^_, _≤_, _<_}
+use Prim.Native.Nat.{ℕ, zero, suc, _+_, _*_, _^_, _≤_, _<_}
 use native.Mathlib.Decide.{decLt}
 use native.Mathlib.Omega.{arith}
 use lib.ListN.{length}
@@ -16,12 +16,12 @@ use Rattle.rows.proofs.Searches.{held-all, none-is, found-is, absent-is}
 use Rattle.roll.specs.Roll.{Roll}
 use Rattle.statement.specs.Cut.{no-digest}
 use Rattle.rules.specs.Table.{moved, widened}
-use Rattle.rules.proofs.TablesChanged.{moved-length, widened-length}
+use Rattle.rules.proofs.TablesChanged.{widened-length}
 use Rattle.safety.proofs.Views.{standing, look, Reaches, Grows}
-use Rattle.safety.proofs.RowsParts.{row-at, same-label, same-tail, same-height}
-use Rattle.safety.proofs.RowsMoved as moves
+use Rattle.rules.proofs.RowsParts.{row-at, same-label, same-tail, same-height}
+use Rattle.rules.proofs.RowsMoved as moves
 use Rattle.safety.proofs.RowsWidened as widens
-use Rattle.safety.proofs.Looks.{first-same, none-earlier, found-first, look-at, Shown-at, shown-at, stands-still}
+use Rattle.safety.proofs.Looks.{none-earlier, found-first, look-at, Shown-at, shown-at, stands-still}
 
 -- a row that is found where it was, or elsewhere, and is as it was
 as-before :
@@ -40,10 +40,7 @@ module _ (count : ℕ) (rows : List ℕ) (i : ℕ) (tail : List ℕ) (height : �
   after = record { count = count; rows = moved rows i tail height }
 
   finds : (label : List ℕ) → find count (moved rows i tail height) label ≡ find count rows label
-  unfolding held find
-  finds label =
-      ap (λ (n : ℕ). first-of (min count (min most-rows (n / row-bytes))) (moved rows i tail height) label) (moved-length rows i tail height sized within)
-      ∙ first-same (moved rows i tail height) rows label (held count rows) (λ j h. moves.label-stays rows i tail height within sized j)
+  finds = moves.find-stays rows i tail height within sized count
 
   module _ (small : height < 256 ^ height-bytes) where
     pub moved-shows : (label : List ℕ) → find count rows label ≡ At i → look after label ≡ standing height tail

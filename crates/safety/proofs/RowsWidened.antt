@@ -12,7 +12,7 @@ use Rattle.rows.specs.Sizes.{label-bytes, tail-bytes, height-bytes, row-bytes}
 use Rattle.rows.specs.Row.{label-of, tail-of, height-of}
 use Rattle.statement.specs.Cut.{no-digest}
 use Rattle.rules.specs.Table.{smaller, new-row, widened}
-use Rattle.safety.proofs.RowsParts.{part-front, part-back, part-cut, part-part, row-at, label-in, tail-in, height-in-row}
+use Rattle.rules.proofs.RowsParts.{part-front, part-back, part-cut, part-part, row-at, label-in, tail-in, height-in-row}
 
 at-most-one : (b : Bool) → cond b 1 0 ≤ 1
 at-most-one true = omega arith

@@ -23,7 +23,7 @@ use Rattle.safety.proofs.Tales.{says}
 use Rattle.safety.proofs.Ended.{unless-refused, Gives, gives, seen-by, alone-in, first-in, next-in}
 use Rattle.safety.proofs.Sizes.{Whole, appended-long}
 use Rattle.safety.proofs.Looks.{look-at, grows-not}
-use Rattle.safety.proofs.RowsParts.{tail-long}
+use Rattle.rules.proofs.RowsParts.{tail-long}
 use Rattle.safety.proofs.Receipts.{Signed, read-signed, notes-one, notes-two}
 use Rattle.safety.proofs.SeenAppend.{append-shows, append-grows, append-said}
 

@@ -1,5 +1,6 @@
 -- A keeper's calls with their arguments, each by its rule, and the statements that a call returns for signing. 01, "Calls": "The chip signs once each
--- statement that Initialise, New, Append, Read, Append and read or Finalise gives, and none that Bytes to check gives."
+-- statement that Initialise, New, Append, Read, Append and read or Finalise gives, and none that Bytes to check gives." And 02, M-100, Append many: "Heights
+-- in between are signed by nobody; demand 3 reads as before."
 use mathlib.Core.Bool.{Bool, true, false, not, cond, _&&_}
 use mathlib.Core.List.{List, [], _∷_}
 use Prim.Native.Nat.{ℕ}
@@ -14,6 +15,7 @@ use Rattle.rules.specs.Wake.{waking}
 use Rattle.rules.specs.Initialise.{initialising}
 use Rattle.rules.specs.New.{making}
 use Rattle.rules.specs.Append.{appending}
+use Rattle.rules.specs.AppendMany.{appending-many}
 use Rattle.rules.specs.Read.{reading, appending-and-reading}
 use Rattle.rules.specs.Finalise.{finalising}
 use Rattle.rules.specs.Activate.{activating}
@@ -30,6 +32,7 @@ pub data Call : Type 0 where
   Initialise : (identity roll previous own area : List ℕ) → Call
   New : (label area : List ℕ) → Call
   Append : (label entry : List ℕ) (expected : ℕ) (area : List ℕ) → Call
+  Append-many : (label list : List ℕ) (expected : ℕ) (area : List ℕ) → Call
   Read : (label nonce area : List ℕ) → Call
   Append-and-read : (label entry : List ℕ) (expected : ℕ) (nonce area : List ℕ) → Call
   Finalise : (next area : List ℕ) → Call
@@ -45,6 +48,7 @@ outcome-of key k Wake = waking (lent k []) key
 outcome-of key k (Initialise identity roll previous own area) = initialising (lent k area) identity roll previous own
 outcome-of key k (New label area) = making (lent k area) label
 outcome-of key k (Append label entry expected area) = appending (lent k area) label entry expected
+outcome-of key k (Append-many label list expected area) = appending-many (lent k area) label list expected
 outcome-of key k (Read label nonce area) = reading (lent k area) label nonce
 outcome-of key k (Append-and-read label entry expected nonce area) = appending-and-reading (lent k area) label entry expected nonce
 outcome-of key k (Finalise next area) = finalising (lent k area) next
@@ -64,6 +68,7 @@ statements-in Wake area = []
 statements-in (Initialise identity roll previous own area₀) area = take handover-size area ∷ []
 statements-in (New label area₀) area = take receipt-size area ∷ []
 statements-in (Append label entry expected area₀) area = take receipt-size area ∷ []
+statements-in (Append-many label list expected area₀) area = take receipt-size area ∷ []
 statements-in (Read label nonce area₀) area = take reading-size area ∷ []
 statements-in (Append-and-read label entry expected nonce area₀) area =
     take receipt-size area ∷ take reading-size (drop receipt-size area) ∷ []
@@ -83,6 +88,7 @@ is-wake Wake = true
 is-wake (Initialise identity roll previous own area) = false
 is-wake (New label area) = false
 is-wake (Append label entry expected area) = false
+is-wake (Append-many label list expected area) = false
 is-wake (Read label nonce area) = false
 is-wake (Append-and-read label entry expected nonce area) = false
 is-wake (Finalise next area) = false
@@ -95,6 +101,7 @@ sized Wake = true
 sized (Initialise identity roll previous own area) = eqb (length identity) digest-bytes
 sized (New label area) = eqb (length label) label-bytes
 sized (Append label entry expected area) = eqb (length label) label-bytes
+sized (Append-many label list expected area) = eqb (length label) label-bytes
 sized (Read label nonce area) = eqb (length label) label-bytes
 sized (Append-and-read label entry expected nonce area) = eqb (length label) label-bytes
 sized (Finalise next area) = true

@@ -14,7 +14,7 @@ use Rattle.rules.specs.Bundle.{old-count, old-position, old-marks, new-count, n
 use Rattle.rules.specs.Initialise.{initialise-statement}
 use Rattle.rules.specs.Check.{old-statement}
 use Rattle.desk.specs.Verdict.{Question, signer-count, judging}
-use Rattle.safety.specs.Calls.{Keeper, Call, Wake, Initialise, New, Append, Read, Append-and-read, Finalise, Activate, Bytes-to-check, accepts}
+use Rattle.safety.specs.Calls.{Keeper, Call, Wake, Initialise, New, Append, Append-many, Read, Append-and-read, Finalise, Activate, Bytes-to-check, accepts}
 use Rattle.safety.specs.Histories.{Event, At, Judged, keeper-after, _∈_, listed, Returned}
 
 -- what marks claim: that the key is attested, and that its signature on the statement is valid
@@ -51,6 +51,7 @@ claims-by k Wake = []
 claims-by k (Initialise identity roll previous own area) = []
 claims-by k (New label area) = []
 claims-by k (Append label entry expected area) = []
+claims-by k (Append-many label list expected area) = []
 claims-by k (Read label nonce area) = []
 claims-by k (Append-and-read label entry expected nonce area) = []
 claims-by k (Finalise next area) = []

@@ -14,7 +14,7 @@ use Rattle.statement.specs.Cut.{no-digest}
 use Rattle.rules.specs.Bundle.{old-count}
 use Rattle.rules.specs.Derivation.{roll-of}
 use Rattle.desk.specs.Verdict.{Question, judging}
-use Rattle.safety.specs.Calls.{Keeper, Call, Wake, Initialise, New, Append, Read, Append-and-read, Finalise, Activate, Bytes-to-check, accepts}
+use Rattle.safety.specs.Calls.{Keeper, Call, Wake, Initialise, New, Append, Append-many, Read, Append-and-read, Finalise, Activate, Bytes-to-check, accepts}
 use Rattle.safety.specs.Histories.{Event, At, Judged, keeper-after, _∈_, listed}
 
 -- the roll of old entry i of a bundle
@@ -27,6 +27,7 @@ hashed-by k Wake = []
 hashed-by k (Initialise identity roll previous own area) = []
 hashed-by k (New label area) = []
 hashed-by k (Append label entry expected area) = []
+hashed-by k (Append-many label list expected area) = []
 hashed-by k (Read label nonce area) = []
 hashed-by k (Append-and-read label entry expected nonce area) = []
 hashed-by k (Finalise next area) = roll-string (k .head .count) (k .table) ∷ []

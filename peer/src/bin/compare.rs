@@ -1,12 +1,13 @@
 //! This program runs the same calls on two parties and compares answer, head, table and output area in full.
 
 use peer::broken::{SLIPS, SLIPS_OF_M_107};
+use peer::broken_many::MANY_SLIPS;
 use peer::broken_store::STORE_SLIPS;
 use peer::party::{Party, Peer};
 use peer::trial::lists::LISTS;
 use peer::trial::pairing::{Numbers, Pairing};
 use peer::trial::prng::Prng;
-use peer::trial::{history, hostile, layouts, numbers, order, readings, records, store};
+use peer::trial::{history, hostile, layouts, many, numbers, order, readings, records, store};
 use std::process::ExitCode;
 use std::time::Instant;
 
@@ -68,6 +69,10 @@ fn party(name: &str) -> Option<Box<dyn Party>> {
         #[cfg(library)]
         "library" => Some(Box::new(peer::library::Library)),
         _ => {
+            let of_many = MANY_SLIPS.into_iter().find(|slip| format!("{slip:?}") == name);
+            if let Some(slip) = of_many {
+                return Some(Box::new(slip));
+            }
             let of_store = STORE_SLIPS.into_iter().find(|slip| format!("{slip:?}") == name);
             if let Some(slip) = of_store {
                 return Some(Box::new(slip));
@@ -79,13 +84,14 @@ fn party(name: &str) -> Option<Box<dyn Party>> {
 }
 
 fn run_fixed(pairing: &mut Pairing, prng: &mut Prng) {
-    let fixed: [(&str, Trial); 6] = [
+    let fixed: [(&str, Trial); 7] = [
         ("numbers to try", numbers::run),
         ("readings", readings::run),
         ("order of refusals", order::run),
         ("layouts", layouts::run),
         ("hostile histories", hostile::run),
         ("store", store::run),
+        ("append many", many::run),
     ];
     for (name, run) in fixed {
         let before = pairing.tally.calls;
@@ -96,14 +102,15 @@ fn run_fixed(pairing: &mut Pairing, prng: &mut Prng) {
 
 /// Goes on until so many calls are made with this seed. A history makes hundreds of calls, so the others get more turns.
 fn run_by_chance(pairing: &mut Pairing, prng: &mut Prng, calls: u64) {
-    let by_chance: [(&str, usize, Trial); 5] = [
+    let by_chance: [(&str, usize, Trial); 6] = [
         ("order", 60, order::run_any),
         ("records", 30, records::run_any),
         ("layouts", 60, layouts::run_any),
         ("histories", 1, history::run_any),
         ("stores", 4, store::run_any),
+        ("appends of many", 4, many::run_any),
     ];
-    let mut made = [0; 5];
+    let mut made = [0; 6];
     while pairing.calls_of_seed() < calls {
         for ((_, turns, run), count) in by_chance.iter().zip(&mut made) {
             let before = pairing.tally.calls;

@@ -3,6 +3,7 @@
 mod activate;
 mod append;
 mod append_and_read;
+mod append_many;
 mod bytes_to_check;
 mod finalise;
 mod handover;
@@ -14,6 +15,7 @@ mod wake;
 pub use activate::activate;
 pub use append::append;
 pub use append_and_read::append_and_read;
+pub use append_many::{append_many, one_more, ManyOf02, ManyRules, DIGEST, MOST_ENTRIES};
 pub use bytes_to_check::bytes_to_check;
 pub use finalise::finalise;
 pub use initialise::initialise;
@@ -53,7 +55,7 @@ fn ask_sound(lent: &Lent) -> Result<(), Refusal> {
     Ok(())
 }
 
-/// The beginning of New, Append, Read and Append and read: "1, 2, 4".
+/// The beginning of New, Append, Append many, Read and Append and read: "1, 2, 4".
 fn ask_active(lent: &Lent, number_above: usize) -> Result<(), Refusal> {
     ask_area(lent, number_above)?;
     ask_sound(lent)?;

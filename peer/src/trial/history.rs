@@ -98,7 +98,8 @@ fn spread(world: &mut World, stage: &Stage, prng: &mut Prng) {
     let label = *prng.pick(&stage.labels);
     let entry = *prng.pick(&stage.entries);
     let nonce = *prng.pick(&stage.nonces);
-    let kind = prng.below(6);
+    let list: Vec<[u8; 32]> = (0..prng.below(3)).map(|_| *prng.pick(&stage.entries)).collect();
+    let kind = prng.below(12);
     for keeper in 0..world.keepers.len() {
         let idle = world.keepers[keeper].head.status != ACTIVE && !prng.chance(1, 10);
         if idle || prng.chance(1, 5) {
@@ -108,12 +109,13 @@ fn spread(world: &mut World, stage: &Stage, prng: &mut Prng) {
         let height = height_at(world, keeper, &label);
         let expected = if prng.chance(1, 12) { prng.below(4) as u64 } else { height + 1 };
         let call = match kind {
-            0 => Call::New { label },
-            1 => Call::Read { label, nonce },
-            2 => Call::AppendAndRead { label, entry, expected, nonce },
+            0 | 1 => Call::New { label },
+            2 | 3 => Call::Read { label, nonce },
+            4 | 5 => Call::AppendAndRead { label, entry, expected, nonce },
+            6 => Call::AppendMany { label, list: [&list.concat()[..], &entry].concat(), expected },
             _ => Call::Append { label, entry, expected },
         };
-        if kind > 1 && height == 0 {
+        if kind > 3 && height == 0 {
             world.call(keeper, &Call::New { label });
         }
         world.call(keeper, &call);

@@ -7,7 +7,7 @@ use super::world::{part, World};
 use crate::call::Call;
 use crate::record::ACTIVE;
 use crate::roll::in_blocks;
-use crate::row::Row;
+use crate::row::{appended, Row};
 
 pub fn run(pairing: &mut Pairing, prng: &mut Prng) {
     two_halves(pairing, prng);
@@ -21,6 +21,7 @@ pub fn run(pairing: &mut Pairing, prng: &mut Prng) {
     second_heir(pairing, prng, false);
     replayed_reading(pairing, prng);
     rack_of_two(pairing, prng);
+    heights_between(pairing, prng);
 }
 
 const LABEL: [u8; 16] = [1; 16];
@@ -220,4 +221,26 @@ fn rack_of_two(pairing: &mut Pairing, prng: &mut Prng) {
     let active = world.keepers[heir].head.status == ACTIVE;
     world.pairing.ask(active, "a rack of two hands over to another size");
     contradict(&mut world, heir, SECOND);
+}
+
+/// M-100: "Heights in between are signed by nobody". Of two entries at one press the desk takes the second's height, not the first's.
+fn heights_between(pairing: &mut Pairing, prng: &mut Prng) {
+    let mut world = World::new(pairing, true);
+    founded(&mut world, prng, 3);
+    let list = [FIRST, SECOND].concat();
+    for keeper in 0..3 {
+        world.call(keeper, &Call::AppendMany { label: LABEL, list: list.clone(), expected: 1 });
+    }
+    let Some(last) = world.receipts.last().cloned() else { return };
+    let mut between = last.clone();
+    between[81..113].copy_from_slice(&appended(&[0; 32], &FIRST));
+    between[120] = 1;
+    let accepted = |world: &World| world.pairing.tally.accepted("Verdict");
+    let before = accepted(&world);
+    judge(&mut world, &between, &[0, 1, 2]);
+    let none = accepted(&world) == before;
+    world.pairing.ask(none, "no keeper has signed the height in between");
+    judge(&mut world, &last, &[0, 1, 2]);
+    let one = accepted(&world) == before + 1;
+    world.pairing.ask(one, "the statement of the last height is accepted");
 }

@@ -4,7 +4,7 @@ use crate::call::Call;
 use crate::refusals::Refusal;
 
 /// The call's name and the numbers that 01 lists for it, in 01's order.
-pub const LISTS: [(&str, &[Refusal]); 19] = [
+pub const LISTS: &[(&str, &[Refusal])] = &[
     ("Hash", &[25]),
     ("Read rack", &[6]),
     ("Write rack", &[6, 1]),
@@ -18,6 +18,7 @@ pub const LISTS: [(&str, &[Refusal]); 19] = [
     ("Append", &[1, 2, 4, 10, 11, 12]),
     ("Read", &[1, 2, 4, 10]),
     ("Append and read", &[1, 2, 4, 10, 11, 12]),
+    ("Append many", &[1, 2, 4, 32, 10, 11, 12]),
     ("Finalise", &[1, 2, 4, 6, 38]),
     ("Activate", &[2, 5, 6, 21, 22, 15, 16, 17, 18, 19, 20]),
     ("Bytes to check", &[1, 2, 5, 6, 21, 22, 15]),
@@ -27,30 +28,40 @@ pub const LISTS: [(&str, &[Refusal]); 19] = [
 ];
 
 /// Wake to Bytes to check are calls on a record.
-pub const FIRST_ON_RECORD: usize = 7;
-pub const LAST_ON_RECORD: usize = 15;
+pub fn is_on_record(call: &Call) -> bool {
+    (place_of("Wake")..=place_of("Bytes to check")).contains(&place(call))
+}
 
 /// The place of a call in the lists.
 pub fn place(call: &Call) -> usize {
+    place_of(name(call))
+}
+
+pub fn place_of(name: &str) -> usize {
+    LISTS.iter().position(|(listed, _)| *listed == name).expect("each call has its list")
+}
+
+fn name(call: &Call) -> &'static str {
     match call {
-        Call::Hash { .. } => 0,
-        Call::ReadRack { .. } => 1,
-        Call::WriteRack { .. } => 2,
-        Call::ReadRoll { .. } => 3,
-        Call::WriteRoll { .. } => 4,
-        Call::ReadStatement { .. } => 5,
-        Call::WriteStatement { .. } => 6,
-        Call::Wake { .. } => 7,
-        Call::Initialise { .. } => 8,
-        Call::New { .. } => 9,
-        Call::Append { .. } => 10,
-        Call::Read { .. } => 11,
-        Call::AppendAndRead { .. } => 12,
-        Call::Finalise { .. } => 13,
-        Call::Activate(_) => 14,
-        Call::BytesToCheck { .. } => 15,
-        Call::Verdict(_) => 16,
-        Call::StoreAppend { .. } => 17,
-        Call::StoreRead { .. } => 18,
+        Call::Hash { .. } => "Hash",
+        Call::ReadRack { .. } => "Read rack",
+        Call::WriteRack { .. } => "Write rack",
+        Call::ReadRoll { .. } => "Read roll",
+        Call::WriteRoll { .. } => "Write roll",
+        Call::ReadStatement { .. } => "Read statement",
+        Call::WriteStatement { .. } => "Write statement",
+        Call::Wake { .. } => "Wake",
+        Call::Initialise { .. } => "Initialise",
+        Call::New { .. } => "New",
+        Call::Append { .. } => "Append",
+        Call::Read { .. } => "Read",
+        Call::AppendAndRead { .. } => "Append and read",
+        Call::AppendMany { .. } => "Append many",
+        Call::Finalise { .. } => "Finalise",
+        Call::Activate(_) => "Activate",
+        Call::BytesToCheck { .. } => "Bytes to check",
+        Call::Verdict(_) => "Verdict",
+        Call::StoreAppend { .. } => "Store append",
+        Call::StoreRead { .. } => "Store read",
     }
 }

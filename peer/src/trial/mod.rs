@@ -7,6 +7,7 @@ pub mod history;
 pub mod hostile;
 pub mod layouts;
 pub mod lists;
+pub mod many;
 pub mod missing;
 pub mod numbers;
 pub mod order;

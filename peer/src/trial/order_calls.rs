@@ -78,11 +78,20 @@ fn record_plans() -> Vec<Plan> {
         &["11 ahead", "11 behind", "11 zero", "11 far"],
         &["12"],
     ];
+    const APPEND_MANY: &[&[&str]] = &[
+        AREA,
+        UNSOUND,
+        NOT_ACTIVE,
+        &["32 none", "32 one more", "32 many more", "32 a part", "32 a byte over"],
+        &["10", "10 label zero"],
+        &["11 ahead", "11 behind", "11 zero", "11 far"],
+        &["12", "12 last alone"],
+    ];
     const READ: &[&[&str]] = &[AREA, UNSOUND, NOT_ACTIVE, &["10", "10 label zero"]];
     const FINALISE: &[&[&str]] = &[AREA, UNSOUND, &["0 repeat"], &["4 blank", "4 prepared"], RACK_DAMAGES, &["38 two"]];
     // A blank keeper has no ledgers; a label that is zero or absent has no row and no height.
     const NEW_APART: &[(&str, &str)] = &[("14", "9"), ("4 blank", "9"), ("4 blank", "13")];
-    const APPEND_APART: &[(&str, &str)] = &[("10*", "11*"), ("10*", "12"), ("4 blank", "11*"), ("4 blank", "12")];
+    const APPEND_APART: &[(&str, &str)] = &[("10*", "11*"), ("10*", "12*"), ("4 blank", "11*"), ("4 blank", "12*")];
     // The argument that must be absent for 8 can't be broken as well.
     const INITIALISE_APART: &[(&str, &str)] = &[("8 roll alone", "6 previous*"), ("8 rack alone", "15*")];
     vec![
@@ -91,6 +100,7 @@ fn record_plans() -> Vec<Plan> {
         Plan { name: "Append", steps: APPEND, apart: APPEND_APART, build: append },
         Plan { name: "Read", steps: READ, apart: &[], build: read },
         Plan { name: "Append and read", steps: APPEND, apart: APPEND_APART, build: append_and_read },
+        Plan { name: "Append many", steps: APPEND_MANY, apart: APPEND_APART, build: append_many },
         Plan { name: "Finalise", steps: FINALISE, apart: &[("0 repeat", "4*")], build: finalise },
     ]
 }
@@ -324,12 +334,16 @@ fn new(prng: &mut Prng, damages: &Damages) -> Case {
     case(keeper(prng, damages, &rows, 121), Call::New { label })
 }
 
-/// Label, expected height, rows and the height that 11 gives, for both appends.
+/// Label, expected height, rows and the height that 11 gives, for the appends.
 fn append_parts(prng: &mut Prng, damages: &Damages) -> ([u8; 16], u64, Vec<Row>, u64) {
     let count = 1 + prng.below(63);
     let mut rows = good::rows(prng, count);
     let chosen = prng.below(count);
-    let height = if damages.has("12") { TOP } else { prng.below(1000) as u64 };
+    let height = match () {
+        _ if damages.has("12") => TOP,
+        _ if damages.has("12 last alone") => TOP - MANY as u64 + 1,
+        _ => prng.below(1000) as u64,
+    };
     let tail = if height == 0 { [0; 32] } else { prng.array() };
     rows[chosen] = Row { tail, height, ..rows[chosen] };
     let expected = match () {
@@ -362,6 +376,23 @@ fn append_and_read(prng: &mut Prng, damages: &Damages) -> Case {
     let lent = keeper(prng, damages, &rows, 258);
     let (entry, nonce) = (prng.array(), prng.array());
     Case { lent, call: Call::AppendAndRead { label, entry, expected, nonce }, height }
+}
+
+/// So many entries has the list of Append many where its length is right.
+const MANY: usize = 20;
+
+fn append_many(prng: &mut Prng, damages: &Damages) -> Case {
+    let (label, expected, rows, height) = append_parts(prng, damages);
+    let lent = keeper(prng, damages, &rows, 121);
+    let bytes = match () {
+        _ if damages.has("32 none") => 0,
+        _ if damages.has("32 one more") => 32 * 33,
+        _ if damages.has("32 many more") => 32 * 300,
+        _ if damages.has("32 a part") => 31,
+        _ if damages.has("32 a byte over") => 32 * MANY + 1,
+        _ => 32 * MANY,
+    };
+    Case { lent, call: Call::AppendMany { label, list: prng.bytes(bytes), expected }, height }
 }
 
 fn read(prng: &mut Prng, damages: &Damages) -> Case {

@@ -1,6 +1,6 @@
 //! This file holds the comparison: one call on two parties over copies of the same data, and the tally of all of them.
 
-use super::lists::{place, FIRST_ON_RECORD, LAST_ON_RECORD, LISTS};
+use super::lists::{is_on_record, place, place_of, LISTS};
 use crate::block::BLOCK;
 use crate::call::{Call, Lent, Reply};
 use crate::party::Party;
@@ -29,6 +29,13 @@ pub struct Tally {
     /// Those faults that are two accepted verdicts with different tails.
     pub demand_3: u64,
     pub first_fault: Option<String>,
+}
+
+impl Tally {
+    /// How often the call of this name was accepted.
+    pub fn accepted(&self, name: &str) -> u64 {
+        self.by_call[place_of(name)].get(&0).copied().unwrap_or(0)
+    }
 }
 
 pub struct Pairing<'a> {
@@ -123,8 +130,7 @@ impl<'a> Pairing<'a> {
             let what = "more or less of the area changed than the bytes written, or the store's block";
             self.fault(format!("{what}; {written} written; call {}", brief(call)));
         }
-        let on_record = place(call) >= FIRST_ON_RECORD && place(call) <= LAST_ON_RECORD;
-        if on_record && reply.number() == 0 && !is_sound(&after.head, &after.table) {
+        if is_on_record(call) && reply.number() == 0 && !is_sound(&after.head, &after.table) {
             self.fault(format!("an accepted call left a record not sound; call {}", brief(call)));
         }
     }

@@ -1,6 +1,7 @@
 //! This file holds the trial of arbitrary records: any status and count, rows of every kind, tables of any length, any call.
 
 use super::good;
+use super::many;
 use super::pairing::Pairing;
 use super::prng::Prng;
 use super::scene::{any_sizes, Scene};
@@ -43,7 +44,7 @@ fn prepared(pairing: &mut Pairing, prng: &mut Prng) {
 }
 
 /// A record: sound in about half of the cases, otherwise with one damage, a few of them wholly arbitrary.
-fn record(prng: &mut Prng) -> Lent {
+pub fn record(prng: &mut Prng) -> Lent {
     if prng.chance(1, 10) {
         return wild(prng);
     }
@@ -107,7 +108,7 @@ fn good_row(prng: &mut Prng) -> Row {
 }
 
 /// A label of the table, or another, or zero.
-fn some_label(prng: &mut Prng, table: &[Row]) -> [u8; 16] {
+pub fn some_label(prng: &mut Prng, table: &[Row]) -> [u8; 16] {
     match prng.below(8) {
         0 => [0; 16],
         1 | 2 => good::label(prng),
@@ -120,7 +121,7 @@ fn some_label(prng: &mut Prng, table: &[Row]) -> [u8; 16] {
 }
 
 /// An expected height that mostly fits the label's row.
-fn expected(prng: &mut Prng, table: &[Row], label: &[u8; 16]) -> u64 {
+pub fn expected(prng: &mut Prng, table: &[Row], label: &[u8; 16]) -> u64 {
     let height = table.iter().find(|row| row.label == *label).map_or(0, |row| row.height);
     match prng.below(8) {
         0 => prng.next(),
@@ -148,13 +149,14 @@ fn call(prng: &mut Prng, lent: &Lent) -> Call {
     let label = some_label(prng, &lent.table);
     let (entry, nonce) = (prng.array(), prng.array());
     let expected = expected(prng, &lent.table, &label);
-    match prng.below(16) {
+    match prng.below(18) {
         0 => Call::Wake { key: entry },
         1 | 2 => initialise(prng, &lent.head),
         3..=5 => Call::New { label },
         6..=8 => Call::Append { label, entry, expected },
         9 => Call::Read { label, nonce },
         10 | 11 => Call::AppendAndRead { label, entry, expected, nonce },
+        16 | 17 => Call::AppendMany { label, list: many::any_list(prng), expected },
         12 => Call::Finalise { next: some_rack(prng, &lent.head.key) },
         13 | 14 => handover(prng),
         _ => verdict(prng, label, nonce),

@@ -7,7 +7,7 @@ use super::scene::{OldPart, Scene};
 use crate::call::{AskVerdict, Call, Lent, Reply};
 use crate::record::{Head, ACTIVE};
 use crate::roll;
-use crate::row::Row;
+use crate::row::{appended, Row};
 use crate::statement::{self, Statement, KIND_INITIALISE, KIND_READ};
 use std::collections::HashMap;
 
@@ -123,11 +123,18 @@ impl<'p, 'a> World<'p, 'a> {
     }
 
     fn remember_append(&mut self, keeper: usize, call: &Call, before: &[Row]) {
-        if let Call::Append { label, entry, .. } | Call::AppendAndRead { label, entry, .. } = call {
-            let of_label = |table: &[Row]| table.iter().find(|row| row.label == *label).map(|row| row.tail);
-            if let (Some(old), Some(new)) = (of_label(before), of_label(&self.keepers[keeper].table)) {
-                self.origins.insert(new, (old, *entry));
-            }
+        let (label, list) = match call {
+            Call::Append { label, entry, .. } | Call::AppendAndRead { label, entry, .. } => (label, &entry[..]),
+            Call::AppendMany { label, list, .. } => (label, &list[..]),
+            _ => return,
+        };
+        let of_label = |table: &[Row]| table.iter().find(|row| row.label == *label).map(|row| row.tail);
+        let (Some(mut tail), Some(last)) = (of_label(before), of_label(&self.keepers[keeper].table)) else { return };
+        for (place, entry) in list.chunks_exact(32).enumerate() {
+            // The last tail is taken as the keeper has it, whatever the rules are.
+            let next = if 32 * (place + 1) == list.len() { last } else { appended(&tail, &part(entry, 0)) };
+            self.origins.insert(next, (tail, part(entry, 0)));
+            tail = next;
         }
     }
 

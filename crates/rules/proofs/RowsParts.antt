@@ -1,13 +1,14 @@
 -- Laws of a row as a part of its table, and of the parts of strings that are joined, cut or put into others. Assumes nothing.
-use mathlib.Core.Path.{_≡_, sym, ap, _∙_}
-use mathlib.Core.List.{List, _++_}
+use mathlib.Core.Path.{_≡_, sym, ap, ap₂, _∙_}
+use mathlib.Core.List.{List, _++_, append-assoc}
 use Prim.Native.Nat.{ℕ, _+_, _-_, _*_, _≤_}
 use native.Mathlib.Omega.{arith}
 use lib.ListN.{length, take, drop, length-append, length-drop}
-use lib.Seq.{take-take, drop-drop, take-append-le, drop-append-le, drop-append-add, length-take-le}
+use lib.Seq.{take-take, drop-drop, take-append-le, drop-append-le, drop-append-add, length-take-le, take-at, drop-at}
 use Rattle.octets.specs.Numbers.{number-of}
 use Rattle.octets.specs.Strings.{put}
 use Rattle.octets.proofs.Parts.{drop-take}
+use Rattle.octets.proofs.Puts.{drop-put}
 use Rattle.statement.specs.Kinds.{digest-bytes}
 use Rattle.rows.specs.Sizes.{label-bytes, tail-bytes, height-bytes, row-bytes}
 use Rattle.rows.specs.Row.{label-of, tail-of, height-of}
@@ -55,6 +56,23 @@ module _ (d : List ℕ) (at : ℕ) (s : List ℕ) (fits : at ≤ length d) where
       let e : at + length s + (p - (at + length s)) ≡ p = omega arith in
       part-back (take at d ++ s) (drop (at + length s) d) (p - (at + length s)) n p (omega (arith, front-long))
       ∙ part-part d (at + length s) (p - (at + length s)) n ∙ ap (λ (j : ℕ). take n (drop j d)) e
+
+  pub put-dropped : (p : ℕ) → at + length s ≤ p → drop p (put d at s) ≡ drop p d
+  put-dropped p h =
+      let q : ℕ = at + length s in
+      let e : at + length s + (p - (at + length s)) ≡ p = omega arith in
+      ap (λ (j : ℕ). drop j (put d at s)) (sym e) ∙ sym (drop-drop (p - q) q (put d at s))
+      ∙ ap (λ (l : List ℕ). drop (p - q) l) (drop-put d at s fits) ∙ drop-drop (p - q) q d ∙ ap (λ (j : ℕ). drop j d) e
+
+  -- a string put over one that is as long
+  pub put-over : (t : List ℕ) → length s ≡ length t → put (put d at s) at t ≡ put d at t
+  unfolding put
+  put-over t e =
+      let rest : List ℕ = drop (at + length s) d in
+      ap₂ (λ (x y : List ℕ). x ++ t ++ y)
+      (ap (take at) (append-assoc (take at d) s rest) ∙ take-at (take at d) (s ++ rest) at (length-take-le at d fits))
+      (ap (λ (n : ℕ). drop (at + n) (take at d ++ s ++ rest)) (sym e) ∙ drop-at (take at d ++ s) rest (at + length s) front-long
+      ∙ ap (λ (n : ℕ). drop (at + n) d) e)
 
 -- row i of a table, and its parts
 unfoldable pub row-at : List ℕ → ℕ → List ℕ

@@ -1,0 +1,3 @@
+-- What the helpers of Append many ask and leave.
+pub mod Known
+pub mod Tests
