@@ -46,7 +46,7 @@ extern "C" {
  * are not to be mixed.
  */
 #define MAHQURITH_VERSION_MAJOR 1
-#define MAHQURITH_VERSION_MINOR 5
+#define MAHQURITH_VERSION_MINOR 6
 
 /*
  * Answers: 0, or the refusal's number; mahqurith_meaning says what each means. Tests are made in the order that each call
@@ -430,6 +430,22 @@ mahqurith_stored mahqurith_store_append(uint8_t *area, size_t area_length, mahqu
  */
 mahqurith_stored mahqurith_store_read(const uint8_t *area, size_t area_length, mahqurith_place asked, uint8_t *output,
                                       size_t output_length);
+
+/*
+ * The morning report's file: blocks of MAHQURITH_BLOCK bytes, one behind the other, which the program report reads. A desk
+ * writes its rack, then a receipt for each verdict that it asked for, accepted or not; a receipt is judged under the nearest
+ * rack before it.
+ */
+
+/* A rack's block at the front of the area. Refuses: 6 for a string that is no rack, 1. The area stays then. */
+mahqurith_written mahqurith_write_rack_block(const uint8_t *rack, size_t rack_length, uint8_t *area, size_t area_length);
+
+/*
+ * A receipt's block at the front of the area, from what the verdict was asked with. Refuses: 23 for a statement of more than
+ * MAHQURITH_READING bytes or signers that are not at most MAHQURITH_KEYS whole pairs, 1. The area stays then.
+ */
+mahqurith_written mahqurith_write_receipt(mahqurith_question question, const uint8_t *statement, size_t statement_length,
+                                          const uint8_t *signers, size_t signers_length, uint8_t *area, size_t area_length);
 
 /* SHA-256 of FIPS 180-4, for messages of 0 to MAHQURITH_HASH_INPUT bytes. Refuses: 25; the digest stays then. */
 uint32_t mahqurith_sha256(const uint8_t *message, size_t length, uint8_t digest[MAHQURITH_DIGEST]);

@@ -12,6 +12,7 @@ work=$(mktemp -d)
 trap 'rm -rf "$work"' EXIT
 cmp include/mahqurith.h "$prefix/include/mahqurith.h"
 cmp target/mahqurith/libmahqurith.a "$prefix/lib/libmahqurith.a"
+cmp target/mahqurith/report "$prefix/bin/report"
 cat >"$work/digest.c" <<'END'
 #include <mahqurith.h>
 #include <stdio.h>

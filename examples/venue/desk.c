@@ -1,6 +1,9 @@
 /* The desk: it asks, has its chip check every signature and every key's evidence, and believes nothing but the library's verdict. */
 #include "venue.h"
 
+#include <fcntl.h>
+#include <unistd.h>
+
 void digest_text(const char *text, uint8_t digest[MAHQURITH_DIGEST]) {
     must(mahqurith_sha256((const uint8_t *)text, strlen(text), digest) == MAHQURITH_ACCEPTED, "a text is hashed");
 }
@@ -27,8 +30,32 @@ static uint8_t marks_of(const desk *d, const list *rack, const voice *v, const r
     return attested | (chip_valid(key, said->bytes, said->length, v->reply.signatures[0]) ? MAHQURITH_VALID : 0);
 }
 
+/* THE NIGHT'S FILE, for the report in the morning */
+
+static void file_block(mahqurith_written w, const uint8_t block[MAHQURITH_BLOCK]) {
+    int file = open("night", O_WRONLY | O_CREAT | O_APPEND | O_CLOEXEC, 0600);
+    must(w.number == MAHQURITH_ACCEPTED, "a block is laid out");
+    must(file >= 0 && write(file, block, w.written) == (ssize_t)w.written && fsync(file) == 0 && close(file) == 0, "the desk writes a block");
+}
+
+/* A receipt is judged in the morning under the nearest rack before it: a verdict under another rack has that one written first. */
+static void file_rack(desk *d, const list *rack) {
+    uint8_t block[MAHQURITH_BLOCK];
+    if (d->filed.length == rack->length && memcmp(d->filed.bytes, rack->bytes, rack->length) == 0)
+        return;
+    file_block(mahqurith_write_rack_block(BYTES(*rack), block, sizeof block), block);
+    d->filed = *rack;
+}
+
+/* A statement too long for a block is none; without one a receipt is refused in the morning with the same number. */
+static void file_receipt(const desk *d, const reply *said, const uint8_t *signers, size_t length) {
+    uint8_t block[MAHQURITH_BLOCK];
+    size_t stated = said->length <= MAHQURITH_READING ? said->length : 0;
+    file_block(mahqurith_write_receipt(d->question, said->bytes, stated, signers, length, block, sizeof block), block);
+}
+
 /* The verdict on the first reply's statement. Listed are the boxes that the desk's chip found attested, with a valid signature on it. */
-mahqurith_finding desk_judge(const desk *d, const list *rack, const pile *p) {
+mahqurith_finding desk_judge(desk *d, const list *rack, const pile *p) {
     const reply *said = &p->voices[0].reply;
     uint8_t signers[2 * BOXES];
     size_t length = 0;
@@ -39,6 +66,8 @@ mahqurith_finding desk_judge(const desk *d, const list *rack, const pile *p) {
         signers[length++] = p->voices[i].position;
         signers[length++] = marks;
     }
+    file_rack(d, rack);
+    file_receipt(d, said, signers, length);
     return mahqurith_verdict(d->question, BYTES(*rack), said->bytes, said->length, signers, length);
 }
 

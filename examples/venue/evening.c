@@ -281,4 +281,5 @@ int main(int count, char **words) {
     brought_to_the_desk();
     forged_bundle();
     two_heirs();
+    puts("\nTHE MORNING\nThe desk has written a receipt of each of its verdicts to a file, of those that refuse too. The electrician has this report of it:");
 }

@@ -49,11 +49,12 @@ typedef struct {
     mahqurith_question question; /* the newest; its identity is kept for the whole tour */
     list list;                   /* of the rack that the desk asks now */
     mahqurith_finding seen;      /* height and tail in the newest verdict that the desk accepted */
+    list filed;                  /* the rack in the newest rack block of the night's file */
 } desk;
 
 void digest_text(const char *text, uint8_t digest[MAHQURITH_DIGEST]);
 request desk_ask(desk *d, uint8_t kind);
-mahqurith_finding desk_judge(const desk *d, const list *rack, const pile *p);
+mahqurith_finding desk_judge(desk *d, const list *rack, const pile *p);
 bool desk_keeps(desk *d, const request *q, const mahqurith_finding *found);
 bool desk_opens(desk *d, const mahqurith_finding *found);
 bool desk_takes(desk *d, const list *rack, const mahqurith_finding *found);

@@ -3,6 +3,7 @@
 use crate::rack::Rack;
 use crate::record::Head;
 use crate::refusals::{Refusal, OUT_OF_ORDER};
+use crate::report::Receipt;
 use crate::roll::Roll;
 use crate::row::Row;
 use crate::statement::Statement;
@@ -100,6 +101,12 @@ pub enum Call {
         label: [u8; 16],
         height: u64,
     },
+    /// M-103; the rack's block of a night's file.
+    WriteRackBlock {
+        rack: Vec<u8>,
+    },
+    /// M-103; the receipt's block of a night's file.
+    WriteReceipt(Receipt),
 }
 
 /// "previous rack, own rack, bundle"

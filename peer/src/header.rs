@@ -1,6 +1,7 @@
 //! This file holds the C header's structs that no rule of 01 needs, as the header has them.
 
 use crate::call::{Answer, AskVerdict};
+use crate::report::Receipt;
 
 #[repr(C)]
 #[derive(Clone, Copy)]
@@ -41,6 +42,12 @@ pub struct Question {
 impl From<&AskVerdict> for Question {
     fn from(ask: &AskVerdict) -> Question {
         Question { identity: ask.identity, label: ask.label, nonce: ask.nonce, kind: ask.kind }
+    }
+}
+
+impl From<&Receipt> for Question {
+    fn from(receipt: &Receipt) -> Question {
+        Question { identity: receipt.identity, label: receipt.label, nonce: receipt.nonce, kind: receipt.kind }
     }
 }
 

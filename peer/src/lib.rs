@@ -5,6 +5,7 @@
 pub mod block;
 pub mod broken;
 pub mod broken_many;
+pub mod broken_report;
 pub mod broken_store;
 pub mod bundle;
 pub mod call;
@@ -18,6 +19,7 @@ pub mod party;
 pub mod rack;
 pub mod record;
 pub mod refusals;
+pub mod report;
 pub mod roll;
 pub mod row;
 pub mod rules;

@@ -100,6 +100,16 @@ extern "C" {
     fn mahqurith_write_roll(roll: Roll, area: Out, area_length: usize) -> Written;
     fn mahqurith_read_statement(bytes: In, length: usize) -> StatementRead;
     fn mahqurith_write_statement(statement: Statement, area: Out, area_length: usize) -> Written;
+    fn mahqurith_write_rack_block(rack: In, rack_length: usize, area: Out, area_length: usize) -> Written;
+    fn mahqurith_write_receipt(
+        question: Question,
+        statement: In,
+        statement_length: usize,
+        signers: In,
+        signers_length: usize,
+        area: Out,
+        area_length: usize,
+    ) -> Written;
     fn mahqurith_sha256(message: In, length: usize, digest: Out) -> u32;
     fn mahqurith_store_append(area: Out, area_length: usize, asked: Place, text: In, text_length: usize) -> Stored;
     fn mahqurith_store_read(area: In, area_length: usize, asked: Place, output: Out, output_length: usize) -> Stored;
@@ -149,6 +159,10 @@ impl Party for Library {
             }
             Call::StoreRead { store, label, height } => {
                 store_read(store, Place { label: *label, height: *height }, area)
+            }
+            Call::WriteRackBlock { rack } => call!(mahqurith_write_rack_block [] [rack] [area]).into(),
+            Call::WriteReceipt(receipt) => {
+                call!(mahqurith_write_receipt [receipt.into()] [receipt.statement, receipt.signers] [area]).into()
             }
             Call::Wake { .. } => call!(mahqurith_wake {head, table} [fixed] [] []),
             Call::Initialise { roll, previous, own, .. } => {

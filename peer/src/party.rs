@@ -5,6 +5,7 @@ use crate::calls::{self, Tried};
 use crate::desk;
 use crate::rack::{self, Rack};
 use crate::refusals::Refusal;
+use crate::report;
 use crate::roll::{self, Roll};
 use crate::rules::{Of01, Rules};
 use crate::sha256;
@@ -63,6 +64,8 @@ pub fn perform_by(rules: &dyn Rules, lent: &mut Lent, call: &Call) -> Reply {
         Call::StoreRead { store, label, height } => {
             tried(store::read(rules.store(), store, label, *height, &mut lent.area))
         }
+        Call::WriteRackBlock { rack } => written(report::write_rack_block(rack, &mut lent.area)),
+        Call::WriteReceipt(receipt) => written(report::write_receipt(receipt, &mut lent.area)),
     }
 }
 

@@ -372,6 +372,38 @@ static void test_joining(const uint8_t *block)
     guarded(&b);
 }
 
+/* The blocks of the morning report: type, fields in their places, zeros, the check. */
+static void test_report(void)
+{
+    uint8_t rack[ONE_RACK], block[MAHQURITH_BLOCK + 1], digest[MAHQURITH_DIGEST], statement[MAHQURITH_READING + 1];
+    const uint8_t signers[] = {0, 3, 2, 3};
+    mahqurith_question question = {{0}, {0}, {0}, MAHQURITH_READ};
+    rack_of(KEY_A, rack);
+    memset(question.identity, 1, sizeof question.identity);
+    memset(question.label, 2, sizeof question.label);
+    memset(question.nonce, 3, sizeof question.nonce);
+    memset(statement, 4, sizeof statement);
+    memset(block, GUARD, sizeof block);
+    expect(mahqurith_write_rack_block(rack, sizeof rack - 1, block, sizeof block).number == MAHQURITH_RACK_BROKEN, "no rack in a block");
+    expect(mahqurith_write_rack_block(rack, sizeof rack, block, MAHQURITH_BLOCK - 1).number == MAHQURITH_AREA_TOO_SHORT, "no room for a rack's block");
+    expect(mahqurith_write_receipt(question, statement, sizeof statement, signers, sizeof signers, block, 0).number
+               == MAHQURITH_STATEMENT_NOT_ASKED, "a statement too long for a block");
+    expect(mahqurith_write_receipt(question, statement, 1, signers, 3, block, 0).number == MAHQURITH_STATEMENT_NOT_ASKED, "half a pair in a block");
+    expect(mahqurith_write_receipt(question, statement, 1, signers, 4, block, MAHQURITH_BLOCK - 1).number == MAHQURITH_AREA_TOO_SHORT,
+           "no room for a receipt's block");
+    expect(all(block, sizeof block, GUARD), "a refused block");
+    mahqurith_written written = mahqurith_write_rack_block(rack, sizeof rack, block, sizeof block);
+    expect(written.number == 0 && written.written == MAHQURITH_BLOCK && block[0] == 1 && same(block + 1, rack, sizeof rack)
+               && all(block + 1 + sizeof rack, 508 - 1 - sizeof rack, 0) && block[MAHQURITH_BLOCK] == GUARD, "a rack's block");
+    expect(mahqurith_sha256(block, 508, digest) == 0 && same(block + 508, digest, 4), "the check of a rack's block");
+    written = mahqurith_write_receipt(question, statement, MAHQURITH_READING, signers, sizeof signers, block, sizeof block);
+    expect(written.number == 0 && written.written == MAHQURITH_BLOCK && block[0] == 2 && block[1] == MAHQURITH_READ && all(block + 2, 16, 2)
+               && all(block + 18, 16, 3) && all(block + 34, 32, 1) && block[66] == MAHQURITH_READING && all(block + 67, MAHQURITH_READING, 4)
+               && block[204] == 2 && same(block + 205, signers, sizeof signers) && all(block + 209, 508 - 209, 0)
+               && block[MAHQURITH_BLOCK] == GUARD, "a receipt's block");
+    expect(mahqurith_sha256(block, 508, digest) == 0 && same(block + 508, digest, 4), "the check of a receipt's block");
+}
+
 static void test_store(void)
 {
     static uint8_t store[MAHQURITH_STORE + MAHQURITH_BLOCK], out[MAHQURITH_BLOCK + 1];
@@ -425,6 +457,7 @@ int main(void)
     test_roll(block);
     test_rack();
     test_joining(block);
+    test_report();
     test_store();
     expect(mahqurith_sha256(message, MAHQURITH_HASH_INPUT, block) == 0
                && mahqurith_sha256(message, MAHQURITH_HASH_INPUT + 1, block) == MAHQURITH_INPUT_TOO_LONG, "the hash's longest message");

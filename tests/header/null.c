@@ -222,6 +222,15 @@ static void hash_of(const uint8_t *none)
     expect(mahqurith_sha256(none, 0, digest) == MAHQURITH_ACCEPTED && same(digest, first, 4) && same(digest + 28, last, 4), "the hash of no bytes");
 }
 
+static void report_of(const uint8_t *none, uint8_t *area)
+{
+    static uint8_t block[MAHQURITH_BLOCK];
+    mahqurith_question question = {{1}, {2}, {3}, MAHQURITH_APPEND};
+    expect(mahqurith_write_rack_block(none, 0, area, 0).number == MAHQURITH_RACK_BROKEN, "no rack in no block");
+    expect(mahqurith_write_receipt(question, none, 0, none, 0, area, 0).number == MAHQURITH_AREA_TOO_SHORT, "nothing in no block");
+    expect(mahqurith_write_receipt(question, none, 0, none, 0, block, sizeof block).number == MAHQURITH_ACCEPTED, "a receipt of no bytes");
+}
+
 static void store_of(const uint8_t *none, uint8_t *area)
 {
     static uint8_t block[MAHQURITH_BLOCK], output[MAHQURITH_BLOCK];
@@ -285,10 +294,12 @@ int main(void)
     entries_of(place, place);
     hash_of(NULL);
     hash_of(place);
+    report_of(NULL, NULL);
+    report_of(place, place);
     store_of(NULL, NULL);
     store_of(place, place);
     for (size_t i = 0; i < sizeof place; i++)
         expect(place[i] == GUARD, "something was written where the length is 0");
-    printf("null: %d calls of the keeper, the verdict, the layouts, a bundle's entries, the hash and the store take null where a length is 0\n", tried);
+    printf("null: %d calls of the keeper, the verdict, the layouts, a bundle's entries, the hash, the report's blocks and the store take null where a length is 0\n", tried);
     return 0;
 }

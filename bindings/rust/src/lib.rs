@@ -38,7 +38,7 @@ mod store;
 pub mod sys;
 
 pub use bundle::{bundle_mark, bundle_position};
-pub use desk::{verdict, Found, Kind, Question};
+pub use desk::{rack_block, receipt_block, verdict, Found, Kind, Question, ReportBlock};
 pub use keeper::{Finalised, Keeper, List, RECORD};
 pub use layouts::{rack_digest, Rack, Roll, Statement};
 pub use refusal::Refusal;

@@ -258,6 +258,16 @@ extern "C" {
     pub fn mahqurith_write_roll(roll: Roll, area: *mut u8, area_length: usize) -> Written;
     pub fn mahqurith_read_statement(bytes: *const u8, length: usize) -> Reading<Statement>;
     pub fn mahqurith_write_statement(statement: Statement, area: *mut u8, area_length: usize) -> Written;
+    pub fn mahqurith_write_rack_block(rack: *const u8, rack_length: usize, area: *mut u8, area_length: usize) -> Written;
+    pub fn mahqurith_write_receipt(
+        question: Question,
+        statement: *const u8,
+        statement_length: usize,
+        signers: *const u8,
+        signers_length: usize,
+        area: *mut u8,
+        area_length: usize,
+    ) -> Written;
     pub fn mahqurith_store_append(area: *mut u8, area_length: usize, asked: Place, text: *const u8, text_length: usize) -> Stored;
     pub fn mahqurith_store_read(area: *const u8, area_length: usize, asked: Place, output: *mut u8, output_length: usize) -> Stored;
     pub fn mahqurith_sha256(message: *const u8, length: usize, digest: *mut [u8; 32]) -> u32;

@@ -19,9 +19,9 @@ use Rattle.octets.proofs.RoundTrips.{and-left, and-right, same-refl}
 use Rattle.octets.proofs.Zeros.{zeros-are}
 use Rattle.hash.specs.Sha256.{sha256}
 use Rattle.rows.specs.Sizes.{top-height}
-use Rattle.checks.specs.Check.{block-bytes, checked-bytes, check, checked}
+use Rattle.checks.specs.Check.{block-bytes, checked-bytes, check, checked, check-right}
 use Rattle.checks.proofs.Checks.{checked-length, checked-front, checked-back, check-put}
-use Rattle.cabinet.specs.Block.{most-text, label-in, height-in, digest-in, tail-in, length-in, text-in, rest-in, layout-right, check-right, digest-right, sound, block-of}
+use Rattle.cabinet.specs.Block.{most-text, label-in, height-in, digest-in, tail-in, length-in, text-in, rest-in, layout-right, digest-right, sound, block-of}
 
 module _ (label : List ℕ) (height : ℕ) (digest tail text : List ℕ) where
   body : List ℕ

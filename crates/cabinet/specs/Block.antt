@@ -9,7 +9,7 @@ use Rattle.octets.specs.Numbers.{number-of, bytes-of}
 use Rattle.octets.specs.Strings.{all-zero, same}
 use Rattle.hash.specs.Sha256.{sha256}
 use Rattle.rows.specs.Sizes.{label-bytes, tail-bytes, height-bytes, top-height}
-use Rattle.checks.specs.Check.{block-bytes, checked-bytes, check, checked}
+use Rattle.checks.specs.Check.{checked-bytes, checked, check-right}
 
 abbrev pub digest-bytes : ℕ
 digest-bytes = tail-bytes
@@ -63,10 +63,6 @@ rest-in b = take (most-text - length-in b) (drop (text-place + length-in b) b)
 unfoldable pub layout-right : List ℕ → Bool
 layout-right b =
     not (all-zero (label-in b)) && (leb 1 (height-in b) && (leb (height-in b) top-height && (leb (length-in b) most-text && all-zero (rest-in b))))
-
--- "the 4-byte check"
-unfoldable pub check-right : List ℕ → Bool
-check-right b = same (check (take checked-bytes b)) (drop checked-bytes b)
 
 -- "The entry digest is SHA-256 of the text"
 unfoldable pub digest-right : List ℕ → Bool

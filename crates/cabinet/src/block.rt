@@ -10,6 +10,7 @@ use checks::CHECKED;
 use checks::DIGEST;
 use checks::check_of;
 use checks::digest_of;
+use checks::is_checked;
 use octets::copy_at;
 use octets::is_same;
 use octets::is_zero;
@@ -22,7 +23,7 @@ ghost use mathlib.Core.Path.{_≡_};
 ghost use Prim.Native.Nat.{_≤_};
 ghost use lib.ListN.{length};
 ghost use Rattle.checks.specs.Check.{block-bytes};
-ghost use Rattle.cabinet.specs.Block.{most-text, length-in, layout-right, check-right, digest-right, sound, damaged, block-of};
+ghost use Rattle.cabinet.specs.Block.{most-text, length-in, layout-right, digest-right, sound, damaged, block-of};
 
 // The text length that a block says.
 fn text_length(b: &[u8]) -> usize
@@ -53,15 +54,6 @@ fn is_laid(b: &[u8]) -> bool
     }
     let from = TEXT_PLACE + n;
     is_zero(&b[from..CHECKED])
-}
-
-// Whether the last bytes are the check of those before them.
-fn is_checked(b: &[u8]) -> bool
-    requires { ⌜ length (now b) ≡ block-bytes ⌝ }
-    ensures { λ r. ⌜ r ≡ check-right (now (b .entry)) ⌝ }
-{
-    let check = check_of(&b[..CHECKED]);
-    is_same(&check, &b[CHECKED..])
 }
 
 // Whether the entry digest is that of the text.

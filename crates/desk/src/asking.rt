@@ -1,17 +1,16 @@
 // Whether a statement is the one asked for, and has the nonce.
 use octets::is_same;
-use rack::rack_digest;
 use statement::RECEIPT_SIZE;
 use statement::Statement;
 use statement::kind_number;
 use statement::read_statement;
 ghost use mathlib.Core.Path.{_≡_};
-ghost use mathlib.Core.Bool.{true, _&&_};
-ghost use mathlib.Core.List.{[]};
+ghost use mathlib.Core.Bool.{_&&_};
+ghost use mathlib.Core.List.{List, []};
+ghost use Prim.Native.Nat.{ℕ};
 ghost use lib.Dec.{leb};
 ghost use Rattle.octets.specs.Strings.{same};
-ghost use Rattle.octets.specs.Layouts.{holds};
-ghost use Rattle.rack.specs.Racks.{rack-layout};
+ghost use Rattle.rack.specs.Racks.{rack-digest};
 ghost use Rattle.desk.specs.Verdict.{is-asked-for, has-other-nonce};
 
 // The first and the last kind that may be asked for.
@@ -45,10 +44,15 @@ fn is_of(v: Statement, identity: [u8; 32], digest: [u8; 32], label: [u8; 16]) ->
     is_same(&its_label, &label)
 }
 
-// Whether a string is a statement of the asked kind, and of the identity, the rack and the ledger; whatever the nonce.
-pub fn is_asked_for(identity: [u8; 32], rack: &[u8], asked: u8, label: [u8; 16], s: &[u8]) -> bool
-    requires { ⌜ holds rack-layout (now rack) ≡ true ⌝ }
-    ensures { λ r. ⌜ r ≡ is-asked-for (record { identity = identity; rack = now (rack .entry); asked = asked; label = label; nonce = [] }) (now (s .entry)) ⌝ }
+// Whether a string is a statement of the asked kind, and of the identity, a rack with this digest and the ledger; whatever the nonce.
+pub fn is_asked_for(
+    identity: [u8; 32],
+    digest: [u8; 32],
+    asked: u8,
+    label: [u8; 16],
+    s: &[u8],
+) -> bool
+    ensures { λ r. ⌜ ((rack : List ℕ) → digest ≡ rack-digest rack → r ≡ is-asked-for (record { identity = identity; rack = rack; asked = asked; label = label; nonce = [] }) (now (s .entry))) ⌝ }
 {
     if !is_askable(asked) {
         return false;
@@ -62,7 +66,6 @@ pub fn is_asked_for(identity: [u8; 32], rack: &[u8], asked: u8, label: [u8; 16],
     if kind_number(kind) != asked {
         return false;
     }
-    let digest = rack_digest(rack);
     is_of(v, identity, digest, label)
 }
 

@@ -6,9 +6,13 @@ use marks::entries_fit;
 use marks::unmarked;
 use rack::is_rack;
 use rack::majority;
+use rack::rack_digest;
 use statement::Kind;
 use statement::read_statement;
 ghost use mathlib.Core.Path.{_≡_};
+ghost use mathlib.Core.Bool.{true};
+ghost use Rattle.octets.specs.Layouts.{holds};
+ghost use Rattle.rack.specs.Racks.{rack-layout, rack-digest};
 ghost use Rattle.desk.specs.Verdict.{signers-fit, height-in, verdict-refusal, judging};
 
 // Whether signers are whole pairs for a rack of n, at most n of them.
@@ -29,12 +33,14 @@ fn is_signers(n: usize, signers: &[u8]) -> bool
 fn refusal_of_verdict(
     identity: [u8; 32],
     rack: &[u8],
+    digest: [u8; 32],
     asked: u8,
     label: [u8; 16],
     nonce: [u8; 16],
     s: &[u8],
     signers: &[u8],
 ) -> u32
+    requires { ⌜ (holds rack-layout (now rack) ≡ true → digest ≡ rack-digest (now rack)) ⌝ }
     ensures { λ r. ⌜ r ≡ verdict-refusal (record { identity = identity; rack = now (rack .entry); asked = asked; label = label; nonce = nonce }) (now (s .entry)) (now (signers .entry)) ⌝ }
 {
     if !is_rack(rack) {
@@ -44,7 +50,7 @@ fn refusal_of_verdict(
     if !is_signers(n as usize, signers) {
         return refusals::LIST_BROKEN;
     }
-    if !is_asked_for(identity, rack, asked, label, s) {
+    if !is_asked_for(identity, digest, asked, label, s) {
         return refusals::STATEMENT_NOT_ASKED;
     }
     if has_other_nonce(asked, nonce, s) {
@@ -74,19 +80,21 @@ pub fn height_in(kind: Kind) -> u64
     }
 }
 
-// Tail and height of the ledger, as a majority of the rack's keys signed them.
-pub fn verdict(
+// The verdict by a rack whose digest was taken before.
+pub fn verdict_with(
     identity: [u8; 32],
     rack: &[u8],
+    digest: [u8; 32],
     asked: u8,
     label: [u8; 16],
     nonce: [u8; 16],
     s: &[u8],
     signers: &[u8],
 ) -> Finding
+    requires { ⌜ (holds rack-layout (now rack) ≡ true → digest ≡ rack-digest (now rack)) ⌝ }
     ensures { λ r. ⌜ r ≡ judging (record { identity = identity; rack = now (rack .entry); asked = asked; label = label; nonce = nonce }) (now (s .entry)) (now (signers .entry)) ⌝ }
 {
-    let number = refusal_of_verdict(identity, rack, asked, label, nonce, s, signers);
+    let number = refusal_of_verdict(identity, rack, digest, asked, label, nonce, s, signers);
     if number != refusals::ACCEPTED {
         let none = [0u8; 32];
         return Finding {
@@ -104,4 +112,20 @@ pub fn verdict(
         tail,
         height: height_in(kind),
     }
+}
+
+// Tail and height of the ledger, as a majority of the rack's keys signed them.
+pub fn verdict(
+    identity: [u8; 32],
+    rack: &[u8],
+    asked: u8,
+    label: [u8; 16],
+    nonce: [u8; 16],
+    s: &[u8],
+    signers: &[u8],
+) -> Finding
+    ensures { λ r. ⌜ r ≡ judging (record { identity = identity; rack = now (rack .entry); asked = asked; label = label; nonce = nonce }) (now (s .entry)) (now (signers .entry)) ⌝ }
+{
+    let digest = rack_digest(rack);
+    verdict_with(identity, rack, digest, asked, label, nonce, s, signers)
 }

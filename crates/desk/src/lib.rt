@@ -4,6 +4,7 @@ mod judging;
 
 pub use judging::height_in;
 pub use judging::verdict;
+pub use judging::verdict_with;
 
 // What the desk may show: 0 with the tail and the height, or a refusal and zeros.
 #[repr(C)]

@@ -1,12 +1,13 @@
 -- The area of the store. 02, M-104: "It lies in a lent area of up to 128 blocks of 512 bytes".
 use mathlib.Core.Bool.{Bool, cond, _&&_}
 use mathlib.Core.List.{List}
-use Prim.Native.Nat.{ℕ, zero, suc, _*_, _/_, _%_}
-use lib.ListN.{length, take, drop, replicate}
+use Prim.Native.Nat.{ℕ, zero, suc, _/_, _%_}
+use lib.ListN.{length, replicate}
 use lib.Dec.{eqb, leb, ltb}
 use Rattle.octets.specs.Strings.{same}
 use Rattle.rows.specs.Sizes.{tail-bytes}
 use Rattle.checks.specs.Check.{block-bytes}
+unfoldable pub use Rattle.checks.specs.Check.{block-at}
 use Rattle.cabinet.specs.Block.{label-in, height-in, tail-in, unused, damaged}
 use Rattle.store.specs.declared.Newest.{Newest}
 
@@ -20,10 +21,6 @@ blocks area = length area / block-bytes
 -- "whole blocks up to 128"
 unfoldable pub area-right : List ℕ → Bool
 area-right area = eqb (length area % block-bytes) 0 && leb (blocks area) most-blocks
-
--- block i of an area
-unfoldable pub block-at : List ℕ → ℕ → List ℕ
-block-at area i = take block-bytes (drop (block-bytes * i) area)
 
 -- the first number below n of which a test holds; n where it holds of none
 unfoldable pub first-place : (ℕ → Bool) → ℕ → ℕ

@@ -7,7 +7,7 @@ use peer::party::{Party, Peer};
 use peer::trial::lists::LISTS;
 use peer::trial::pairing::{Numbers, Pairing};
 use peer::trial::prng::Prng;
-use peer::trial::{history, hostile, layouts, many, numbers, order, readings, records, store};
+use peer::trial::{history, hostile, layouts, many, numbers, order, pages, readings, records, store};
 use std::process::ExitCode;
 use std::time::Instant;
 
@@ -84,7 +84,7 @@ fn party(name: &str) -> Option<Box<dyn Party>> {
 }
 
 fn run_fixed(pairing: &mut Pairing, prng: &mut Prng) {
-    let fixed: [(&str, Trial); 7] = [
+    let fixed: [(&str, Trial); 8] = [
         ("numbers to try", numbers::run),
         ("readings", readings::run),
         ("order of refusals", order::run),
@@ -92,6 +92,7 @@ fn run_fixed(pairing: &mut Pairing, prng: &mut Prng) {
         ("hostile histories", hostile::run),
         ("store", store::run),
         ("append many", many::run),
+        ("blocks of a night", pages::run),
     ];
     for (name, run) in fixed {
         let before = pairing.tally.calls;
@@ -102,15 +103,16 @@ fn run_fixed(pairing: &mut Pairing, prng: &mut Prng) {
 
 /// Goes on until so many calls are made with this seed. A history makes hundreds of calls, so the others get more turns.
 fn run_by_chance(pairing: &mut Pairing, prng: &mut Prng, calls: u64) {
-    let by_chance: [(&str, usize, Trial); 6] = [
+    let by_chance: [(&str, usize, Trial); 7] = [
         ("order", 60, order::run_any),
         ("records", 30, records::run_any),
         ("layouts", 60, layouts::run_any),
         ("histories", 1, history::run_any),
         ("stores", 4, store::run_any),
         ("appends of many", 4, many::run_any),
+        ("blocks of nights", 6, pages::run_any),
     ];
-    let mut made = [0; 6];
+    let mut made = [0; 7];
     while pairing.calls_of_seed() < calls {
         for ((_, turns, run), count) in by_chance.iter().zip(&mut made) {
             let before = pairing.tally.calls;

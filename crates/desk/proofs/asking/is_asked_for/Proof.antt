@@ -9,8 +9,6 @@ use borrow.Author.Tests.{eq-eqb, ne-eqb, not-true, not-false}
 use lib.Dec.{leb}
 use Rattle.octets.specs.Strings.{same}
 use Rattle.octets.specs.Layouts.{holds}
-use Rattle.rack.specs.Racks.{rack-digest}
-use Rattle.rack.proofs.RackTrips.{rack-whole}
 use Rattle.statement.specs.declared.Statement.{Statement}
 use Rattle.statement.specs.Kinds.{kind-number}
 use Rattle.statement.specs.Cut.{cut-statement}
@@ -22,7 +20,7 @@ use Rattle.desk.proofs.asking.is_asked_for.Tie as tie
 
 -- where control came from
 abbrev start1 : tie.Else1 → tie.Start
-start1 c = c .before .before .before .before
+start1 c = c .before .before .before
 
 abbrev start2 : tie.Else2 → tie.Start
 start2 c = start1 (c .before .before .before)
@@ -45,14 +43,14 @@ is-askable-requires c κs = search needs
 
 returns : tie.Need-returns
 unfolding is-asked-for
-returns c = rw (sym (c .before .is-askable .ensures) ∙ not-true _ (c .if1 .taken))
+returns c rack named-by = rw (sym (c .before .is-askable .ensures) ∙ not-true _ (c .if1 .taken))
 
 read-statement-requires : tie.Need-read-statement-requires
 read-statement-requires c κs = search needs
 
 returns-2 : tie.Need-returns-2
 unfolding is-asked-for
-returns-2 c =
+returns-2 c rack named-by =
     let r = c .before .before .read-statement in
     rw (askable (c .before .before .before), refused-broken _ (r .result) (r .ensures) (c .if2 .taken))
 
@@ -61,26 +59,21 @@ kind-number-requires c κs = search needs
 
 returns-3 : tie.Need-returns-3
 unfolding is-asked-for
-returns-3 c =
+returns-3 c rack named-by =
     let two = c .before .before .before in
     rw (askable (two .before .before .before), held two, ← (named (c .before)), ne-eqb _ _ (c .if3 .taken))
-
-rack-digest-requires : tie.Need-rack-digest-requires
-rack-digest-requires c κs = search needs
 
 is-of-requires : tie.Need-is-of-requires
 is-of-requires c κs = search needs
 
 returns-4 : tie.Need-returns-4
 unfolding is-asked-for
-returns-4 c =
-    let two = c .before .before .before .before .before in
+returns-4 c rack named-by =
+    let two = c .before .before .before .before in
     let a = start2 two .args in
-    rw (askable (two .before .before .before), held two, ← (named (c .before .before .before)), eq-eqb _ _ (c .before .before .if3 .left))
+    rw (askable (two .before .before .before), held two, ← (named (c .before .before)), eq-eqb _ _ (c .before .if3 .left))
     (c .is-of .ensures
-    ∙ ap₂ (λ (v : Statement) (d : List ℕ). same (v .identity) (a .identity) && same (v .own) d && same (v .label) (a .label))
-    (cut two)
-    (c .before .rack-digest .ensures ∙ ap rack-digest (rack-whole (now (a .rack)) (start2 two .pre))))
+    ∙ ap₂ (λ (v : Statement) (d : List ℕ). same (v .identity) (a .identity) && same (v .own) d && same (v .label) (a .label)) (cut two) named-by)
 
 pub is-asked-for-spec : {M : Type 1} → statement M
 is-asked-for-spec =
@@ -92,6 +85,5 @@ is-asked-for-spec =
     returns-2
     kind-number-requires
     returns-3
-    rack-digest-requires
     is-of-requires
     returns-4)

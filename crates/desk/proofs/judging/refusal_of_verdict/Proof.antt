@@ -40,7 +40,7 @@ signers-held c = sym (c .before .is-signers .ensures) ∙ not-false _ (c .if2 .l
 
 asked-held : (c : tie.Else3) → is-asked-for (question (start3 c)) (now (start3 c .args .s)) ≡ true
 unfolding is-asked-for
-asked-held c = sym (c .before .is-asked-for .ensures) ∙ not-false _ (c .if3 .left)
+asked-held c = sym (c .before .is-asked-for .ensures _ (start3 c .pre (rack-held (c .before .before .before .before .before)))) ∙ not-false _ (c .if3 .left)
 
 nonce-held : (c : tie.Else4) → has-other-nonce (question (start4 c)) (now (start4 c .args .s)) ≡ false
 unfolding has-other-nonce
@@ -49,7 +49,7 @@ nonce-held c = sym (c .before .has-other-nonce .ensures) ∙ c .if4 .left
 -- the tests that refuse
 not-asked : (c : tie.Then3) → is-asked-for (question (start2 (c .before .before))) (now (start2 (c .before .before) .args .s)) ≡ false
 unfolding is-asked-for
-not-asked c = sym (c .before .is-asked-for .ensures) ∙ not-true _ (c .if3 .taken)
+not-asked c = sym (c .before .is-asked-for .ensures _ (start2 (c .before .before) .pre (rack-held (c .before .before .before .before .before)))) ∙ not-true _ (c .if3 .taken)
 
 nonce-other : (c : tie.Then4) → has-other-nonce (question (start3 (c .before .before))) (now (start3 (c .before .before) .args .s)) ≡ true
 unfolding has-other-nonce
@@ -84,7 +84,7 @@ unfolding first rack-cut verdict-refusal
 returns-2 c = rw (rack-held (c .before .before .before), sym (c .before .is-signers .ensures) ∙ not-true _ (c .if2 .taken))
 
 is-asked-for-requires : tie.Need-is-asked-for-requires
-is-asked-for-requires c κs = rack-held (c .before .before .before)
+is-asked-for-requires c κs = search needs
 
 returns-3 : tie.Need-returns-3
 unfolding first verdict-refusal

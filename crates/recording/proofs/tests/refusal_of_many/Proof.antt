@@ -26,7 +26,8 @@ abbrev list-of : tie.Start → List ℕ
 list-of s = now (s .args .list)
 
 -- where the search finds it
-found : (c : tie.After-known-told) → sought (asked (c .before .before .before .before .before .before .before .before .before .before)) (c .before .before .before .before .before .before .before .before .before .before .args .label) ≡ At (c .before .i .given .0 .0)
+found : (c : tie.After-known-told) → sought (asked (c .before .before .before .before .before .before .before .before .before .before))
+    (c .before .before .before .before .before .before .before .before .before .before .args .label) ≡ At (c .before .i .given .0 .0)
 found c = sym (c .before .before .before .find .ensures) ∙ c .before .i .given .1
 
 unlisted-requires : tie.Need-unlisted-requires

@@ -1,4 +1,4 @@
--- `cabinet::block::is_checked` meets its contract. Assumes nothing.
+-- `checks::is_checked` meets its contract. Assumes nothing.
 use lib.Seq.{take-all}
 use borrow.Author.Needs.{needs}
 use mathlib.Core.Path.{ap₂, _∙_}
@@ -7,9 +7,9 @@ use native.Mathlib.Omega.{arith}
 use denote.Ref.{now}
 use lib.ListN.{length, drop, length-take, length-drop}
 use Rattle.octets.specs.Strings.{same}
-use Rattle.cabinet.specs.Block.{check-right}
-use Rattle.cabinet.proofs.block.is_checked.Statement.{statement}
-use Rattle.cabinet.proofs.block.is_checked.Tie as tie
+use Rattle.checks.specs.Check.{check-right}
+use Rattle.checks.proofs.is_checked.Statement.{statement}
+use Rattle.checks.proofs.is_checked.Tie as tie
 
 slice-aggregate-check-of : tie.Need-slice-aggregate-check-of
 slice-aggregate-check-of c = simp length-take (omega arith)

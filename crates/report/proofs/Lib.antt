@@ -1,0 +1,3 @@
+-- The laws of texts.
+pub mod Outcomes
+pub mod Texts
