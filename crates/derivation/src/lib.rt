@@ -3,6 +3,7 @@ mod growth;
 mod old;
 
 pub use growth::grown;
-pub use old::has_row;
-pub use old::no_more;
+pub use old::after;
+pub use old::is_next;
+pub use old::is_through;
 pub use old::row_derived;

@@ -14,6 +14,6 @@ use Rattle.rules.specs.Rows.{is-absent, row-number, sought}
 abbrev pub found : ℕ → Lent → List ℕ → List Test
 found size k label = readiness size active not-active k ++ (is-absent (sought k label) ⇒ no-such-ledger) ∷ []
 
--- the number of the row that is found, or 0 where the call is refused
+-- the number of the row that is found or that a new ledger gets, or 0 where the call is refused
 unfoldable pub place-if : ℕ → Found → ℕ
 place-if n found = cond (eqb n accepted) (row-number found) 0

@@ -5,5 +5,4 @@ mod search;
 
 pub use receipts::receipt;
 pub use search::Sought;
-pub use search::is_known;
 pub use search::seek;

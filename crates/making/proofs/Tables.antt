@@ -1,24 +1,11 @@
--- Laws of the table: a row put in, row by row, and one more row counted. Assumes nothing.
+-- Laws of the table: a row put in, row by row. Assumes nothing.
 use mathlib.Core.Path.{_≡_, sym, ap, ap₂, _∙_}
-use mathlib.Core.Bool.{Bool, true, false, cond}
 use mathlib.Core.List.{List, _++_, append-nil, append-assoc}
 use Prim.Native.Nat.{ℕ, _+_, _-_, _*_, _≤_, _<_}
-use native.Mathlib.Numerals.{add-one}
 use native.Mathlib.Omega.{arith}
 use lib.ListN.{length, take, drop, length-append, length-drop, take-append-drop, drop-of-length-le}
 use lib.Seq.{length-take-le, take-add, take-at, drop-at, drop-append-add, drop-drop}
-use Rattle.octets.specs.Strings.{put, before}
-use Rattle.rows.specs.Row.{label-of}
-use Rattle.rules.specs.Table.{smaller}
-
-pub smaller-more :
-    (n : ℕ) (rows label : List ℕ) → smaller (n + 1) rows label ≡ smaller n rows label + cond (before (label-of rows n) label) 1 0
-unfolding smaller
-smaller-more n rows label = rw (add-one n)
-
-pub at-most-one : (b : Bool) → cond b 1 0 ≤ 1
-at-most-one true = omega arith
-at-most-one false = omega arith
+use Rattle.octets.specs.Strings.{put}
 
 -- the rows with one put in before row i; the table has room for all but the last
 module _ (t row : List ℕ) (i : ℕ) where

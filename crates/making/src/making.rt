@@ -1,7 +1,6 @@
 // New.
 use crate::table::add_row;
-use crate::table::count_smaller;
-use ledgers::is_known;
+use ledgers::Sought;
 use ledgers::receipt;
 use octets::is_zero;
 use record::ACTIVE;
@@ -9,15 +8,19 @@ use record::acceptance;
 use record::give;
 use record::refusal;
 use record::unready;
+use rows::Found;
 use rows::MOST;
+use rows::find;
 use rules::Head;
 use rules::Told;
 use statement::Kind;
 use statement::RECEIPT_SIZE;
 ghost use mathlib.Core.Path.{_≡_};
 ghost use Prim.Native.Nat.{_<_};
+ghost use Rattle.rows.specs.Search.{find};
 ghost use Rattle.rules.specs.Outcomes.{Lent, outcome};
 ghost use Rattle.rules.specs.New.{one-more, new-refusal, making};
+ghost use Rattle.ledgers.specs.Tests.{place-if};
 
 fn one_more(head: Head) -> Head
     requires { ⌜ head .count < 255 ⌝ }
@@ -28,9 +31,17 @@ fn one_more(head: Head) -> Head
     next
 }
 
-// The first refusal, or 0.
-fn refusal_of_new(head: Head, table: &[u8], label: [u8; 16], area: &[u8]) -> u32
-    ensures { λ r. ⌜ r ≡ new-refusal (record { head = head; table = now (table .entry); area = now (area .entry) }) label ⌝ }
+fn refused(number: u32) -> Sought
+    ensures number { λ r. ⌜ r .number ≡ number ⌝ }
+    ensures place { λ r. ⌜ r .place ≡ 0 ⌝ }
+{
+    Sought { number, place: 0 }
+}
+
+// The first refusal and 0, or 0 and the number of the new row.
+fn refusal_of_new(head: Head, table: &[u8], label: [u8; 16], area: &[u8]) -> Sought
+    ensures number { λ r. ⌜ r .number ≡ new-refusal (record { head = head; table = now (table .entry); area = now (area .entry) }) label ⌝ }
+    ensures place { λ r. ⌜ r .place ≡ place-if (r .number) (find (head .count) (now (table .entry)) label) ⌝ }
 {
     let n = unready(
         head,
@@ -41,30 +52,32 @@ fn refusal_of_new(head: Head, table: &[u8], label: [u8; 16], area: &[u8]) -> u32
         refusals::NOT_ACTIVE,
     );
     if n != refusals::ACCEPTED {
-        return n;
+        return refused(n);
     }
     if is_zero(&label) {
-        return refusals::LABEL_ZERO;
+        return refused(refusals::LABEL_ZERO);
     }
-    if is_known(head, table, label) {
-        return refusals::LEDGER_EXISTS;
-    }
+    let Found::Absent(place) = find(table, head.count as usize, label) else {
+        return refused(refusals::LEDGER_EXISTS);
+    };
     if head.count as usize == MOST {
-        return refusals::TABLE_FULL;
+        return refused(refusals::TABLE_FULL);
     }
-    refusals::ACCEPTED
+    Sought {
+        number: refusals::ACCEPTED,
+        place,
+    }
 }
 
 // A ledger more, at height 0.
 pub fn new(head: Head, table: &mut [u8], label: [u8; 16], area: &mut [u8]) -> Told
     ensures { λ r. ⌜ outcome r (now (table .exit)) (now (area .exit)) ≡ making (record { head = head; table = now (table .entry); area = now (area .entry) }) label ⌝ }
 {
-    let n = refusal_of_new(head, table, label, area);
-    if n != refusals::ACCEPTED {
-        return refusal(n, 0, head);
+    let found = refusal_of_new(head, table, label, area);
+    if found.number != refusals::ACCEPTED {
+        return refusal(found.number, 0, head);
     }
-    let i = count_smaller(table, head.count as usize, label);
-    add_row(table, i, label);
+    add_row(table, found.place, label);
     give(receipt(head, Kind::New, label, [0u8; 32]), area);
     acceptance(RECEIPT_SIZE, one_more(head))
 }

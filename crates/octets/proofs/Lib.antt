@@ -5,6 +5,7 @@ pub mod Digits
 pub mod Exact
 pub mod Fronts
 pub mod Numbers
+pub mod Orders
 pub mod Parts
 pub mod Pieces
 pub mod Puts

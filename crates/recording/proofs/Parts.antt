@@ -48,9 +48,14 @@ module _ (k : Lent) (label list : List ℕ) (expected n : ℕ) (e : n ≡ first 
   unlisted-answer refuses = rw (unlisted-many refuses, other)
 
   module _ (accepts : n ≡ accepted) where
-    pub absent-answer : sought k label ≡ Absent → refusing no-such-ledger 0 ≡ refusing (append-many-refusal receipt-size k label list expected) (present-height k label)
+    pub fit : rows-fit (k .head .count) (k .table) ≡ true
+    fit = sound-rows (k .head) (k .table) (ready receipt-size active not-active k _ (eqb-false 4 0 refl) (sym e ∙ accepts) .0 .sounds)
+
+    pub absent-answer :
+        (i : ℕ) → sought k label ≡ Absent i
+        → refusing no-such-ledger 0 ≡ refusing (append-many-refusal receipt-size k label list expected) (present-height k label)
     unfolding first
-    absent-answer f = sym (ap (λ (m : ℕ). refusing m (present-height k label)) (listed-many accepts ∙ rw (ap is-absent f)))
+    absent-answer i f = sym (ap (λ (m : ℕ). refusing m (present-height k label)) (listed-many accepts ∙ rw (ap is-absent f)))
 
     module _ (i : ℕ) (f : sought k label ≡ At i) where
       pub found-many : append-many-refusal receipt-size k label list expected ≡ first (ordered expected (present-height k label) (entries list))
@@ -58,9 +63,6 @@ module _ (k : Lent) (label list : List ℕ) (expected n : ℕ) (e : n ≡ first 
       found-many = listed-many accepts ∙ rw (ap is-absent f)
 
       -- where the row is, and its height
-      fit : rows-fit (k .head .count) (k .table) ≡ true
-      fit = sound-rows (k .head) (k .table) (ready receipt-size active not-active k _ (eqb-false 4 0 refl) (sym e ∙ accepts) .0 .sounds)
-
       pub place-within : i < most-rows
       place-within = omega (arith, found-is (k .head .count) (k .table) label i fit f .0, fit-count (k .head .count) (k .table) fit)
 

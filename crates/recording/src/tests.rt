@@ -8,6 +8,7 @@ use record::unready;
 use rows::DIGEST;
 use rows::Found;
 use rows::TOP;
+use rows::find;
 use rows::height_at;
 use rules::Head;
 use statement::RECEIPT_SIZE;
@@ -87,7 +88,7 @@ pub fn refusal_of_many(
         let told = refusal(n, 0, head);
         return Moved { told, place: 0 };
     }
-    let Found::At(i) = rows::find(table, head.count as usize, label) else {
+    let Found::At(i) = find(table, head.count as usize, label) else {
         let told = refusal(refusals::NO_SUCH_LEDGER, 0, head);
         return Moved { told, place: 0 };
     };

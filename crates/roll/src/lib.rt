@@ -11,7 +11,6 @@ mod write;
 pub use digest::digest_in;
 pub use gather::take_rows;
 pub use place::count_in;
-pub use place::find_in;
 pub use place::height_in;
 pub use place::label_in;
 pub use place::tail_in;

@@ -5,16 +5,13 @@ use crate::block::PLACES;
 use crate::block::PLACES_BYTES;
 use checks::BLOCK;
 use octets::copy_at;
-use rows::Found;
 use rows::LABEL;
 use rows::ROW;
 use rows::TAIL;
 ghost use mathlib.Core.Path.{_≡_};
 ghost use Prim.Native.Nat.{_*_, _<_};
-ghost use Rattle.octets.specs.Strings.{same};
 ghost use Rattle.rows.specs.Sizes.{most-rows};
 ghost use Rattle.rows.specs.Row.{label-of, tail-of, height-of};
-ghost use Rattle.rows.specs.Search.{find};
 ghost use Rattle.roll.specs.Blocks.{places, blocks};
 ghost use Rattle.roll.specs.Roll.{said-count, roll-layout};
 ghost use Rattle.roll.specs.Places.{Spread, row-at};
@@ -60,28 +57,4 @@ pub fn height_in(s: &[u8], i: usize) -> u64
     ensures { λ r. ⌜ r ≡ height-of (roll-layout .cut (now (s .entry)) .rows) i ⌝ }
 {
     octets::number_at(s, row_at(i) + LABEL + TAIL)
-}
-
-fn has_label(s: &[u8], i: usize, label: &[u8]) -> bool
-    requires { ⌜ Spread (now s) × (i < places * blocks (said-count (now s))) ⌝ }
-    ensures { λ r. ⌜ r ≡ same (label-of (roll-layout .cut (now (s .entry)) .rows) i) (now (label .entry)) ⌝ }
-{
-    let at = row_at(i);
-    octets::is_same(&s[at..at + LABEL], label)
-}
-
-// Finds the row of a roll that has this label.
-pub fn find_in(s: &[u8], label: [u8; LABEL]) -> Found
-    requires { ⌜ Spread (now s) ⌝ }
-    ensures { λ r. ⌜ r ≡ find (roll-layout .cut (now (s .entry)) .count) (roll-layout .cut (now (s .entry)) .rows) label ⌝ }
-{
-    let n = count_in(s);
-    let mut i = 0;
-    while i < n {
-        if has_label(s, i, &label) {
-            return Found::At(i);
-        }
-        i += 1;
-    }
-    Found::Absent
 }

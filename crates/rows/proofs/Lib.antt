@@ -3,5 +3,6 @@ pub mod Labels
 pub mod Rows
 pub mod Tables
 pub mod Searches
+pub mod InOrder
 pub mod Messages
 pub mod Outcomes

@@ -1,11 +1,14 @@
 -- Laws of a row: where its parts stand in a string, and what each test of it decides. Assumes nothing.
 use mathlib.Core.Path.{_≡_, refl, ap₂}
+use mathlib.Core.Bool.{true, false, cond, _&&_}
 use mathlib.Core.List.{List}
 use Prim.Native.Nat.{ℕ, _+_, _-_, _*_}
 use native.Mathlib.Omega.{arith}
 use lib.ListN.{take, drop}
+use lib.Dec.{eqb, leb}
 use Rattle.octets.specs.Numbers.{number-of}
-use Rattle.rows.specs.Sizes.{label-bytes, tail-bytes, height-bytes, row-bytes}
+use Rattle.octets.specs.Strings.{all-zero}
+use Rattle.rows.specs.Sizes.{label-bytes, tail-bytes, height-bytes, row-bytes, top-height}
 use Rattle.rows.specs.Row.{label-of, tail-of, height-of, row-holds, row-fits}
 
 module _ (rows : List ℕ) (i : ℕ) where
@@ -26,6 +29,13 @@ module _ (rows : List ℕ) (i : ℕ) where
       ≡ row-fits rows i
   unfolding height-of row-fits
   row-part = ap₂ (λ (l t : List ℕ). row-holds l t (height-of rows i)) label-part tail-part
+
+  -- a row that has a label goes by its tail and height
+  pub labelled :
+      all-zero (label-of rows i) ≡ false
+      → row-fits rows i ≡ (leb (height-of rows i) top-height && cond (eqb (height-of rows i) 0) (all-zero (tail-of rows i)) true)
+  unfolding row-holds row-fits
+  labelled e = rw e
 
   pub height-part : number-of (take height-bytes (drop (row-bytes * i + label-bytes + tail-bytes) rows)) ≡ height-of rows i
   unfolding height-of

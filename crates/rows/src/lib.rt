@@ -20,6 +20,9 @@ pub const DIGEST: usize = 32;
 // The bytes of a row's parts, and of a row.
 pub const LABEL: usize = 16;
 
+// A label is two numbers of eight bytes.
+const HALF: usize = LABEL / 2;
+
 pub const TAIL: usize = DIGEST;
 
 pub const HEIGHT: usize = 8;
@@ -34,8 +37,8 @@ pub const TABLE: usize = MOST * ROW;
 // The greatest height.
 pub const TOP: u64 = 4294967295;
 
-// What a search for a label finds.
+// What a search for a label finds: the number of the row that has it, or else how many rows have a smaller one.
 pub enum Found {
     At(usize),
-    Absent,
+    Absent(usize),
 }

@@ -1,19 +1,20 @@
 // Whether a string is a table of rows.
+use crate::HALF;
 use crate::LABEL;
 use crate::MOST;
 use crate::ROW;
 use crate::TABLE;
 use crate::TAIL;
 use crate::row::row_holds;
+use crate::row::tail_holds;
 ghost use mathlib.Core.Path.{_≡_};
+ghost use mathlib.Core.Bool.{false};
 ghost use Prim.Native.Nat.{_+_, _*_, _≤_};
 ghost use lib.ListN.{length};
+ghost use Rattle.octets.specs.Strings.{all-zero};
 ghost use Rattle.rows.specs.Sizes.{row-bytes, most-rows};
-ghost use Rattle.rows.specs.Row.{row-fits};
+ghost use Rattle.rows.specs.Row.{label-of, row-fits};
 ghost use Rattle.rows.specs.Table.{each, rises, stands, rows-fit};
-
-// A label is two numbers of eight bytes.
-const HALF: usize = LABEL / 2;
 
 // Whether row i keeps the rules of a row.
 fn row_fits(rows: &[u8], i: usize) -> bool
@@ -28,6 +29,16 @@ fn row_fits(rows: &[u8], i: usize) -> bool
         &rows[tail..height],
         octets::number_at(rows, height),
     )
+}
+
+// The same of a row whose label is not all zero.
+fn labelled_fits(rows: &[u8], i: usize) -> bool
+    requires { ⌜ (row-bytes * i + row-bytes ≤ length (now rows)) × (all-zero (label-of (now rows) i) ≡ false) ⌝ }
+    ensures { λ r. ⌜ r ≡ row-fits (now (rows .entry)) i ⌝ }
+{
+    let tail = ROW * i + LABEL;
+    let height = tail + TAIL;
+    tail_holds(&rows[tail..height], octets::number_at(rows, height))
 }
 
 // Whether the label of row i comes after the one before it.
@@ -48,12 +59,16 @@ fn rises(rows: &[u8], i: usize) -> bool
     octets::number_at(rows, earlier + HALF) < octets::number_at(rows, later + HALF)
 }
 
+// Whether row i may stand where it stands. A label that comes after another is not all zero.
 fn stands(rows: &[u8], i: usize) -> bool
     requires { ⌜ row-bytes * i + row-bytes ≤ length (now rows) ⌝ }
     ensures { λ r. ⌜ r ≡ stands (now (rows .entry)) i ⌝ }
 {
-    if row_fits(rows, i) {
-        return rises(rows, i);
+    if i == 0 {
+        return row_fits(rows, i);
+    }
+    if rises(rows, i) {
+        return labelled_fits(rows, i);
     }
     false
 }

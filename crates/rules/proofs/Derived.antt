@@ -34,11 +34,11 @@ module _ (ours : Roll) (s : List ℕ) where
 
   -- the digests listed for a row that old roll i lacks lead from height 0 and the zero tail to ours
   pub missing-starts :
-      (i r : ℕ) → i < old-count s → r < ours .count → row-in (roll-of s i) ours r ≡ Absent → derived ours s ≡ true
+      (i r k : ℕ) → i < old-count s → r < ours .count → row-in (roll-of s i) ours r ≡ Absent k → derived ours s ≡ true
       → (added s (list-of (ours .count) i r) ≡ height-of (ours .rows) r)
       × (grown no-digest (digests s (list-of (ours .count) i r)) (added s (list-of (ours .count) i r)) ≡ tail-of (ours .rows) r)
   unfolding derived roll-derived row-derived
-  missing-starts i r h l x d =
+  missing-starts i r k h l x d =
       let old = roll-of s i in
       let n = added s (list-of (ours .count) i r) in
       let ds = digests s (list-of (ours .count) i r) in
@@ -48,9 +48,9 @@ module _ (ours : Roll) (s : List ℕ) where
       let rows = and-right (no-more ours old) (each test (ours .count)) (each-of (roll-derived ours s) (old-count s) i h all) in
       let a : Found → Bool = λ f. eqb (counted-height old f + n) (height-of (ours .rows) r) in
       let b : Found → Bool = λ f. same (grown (counted-tail old f) ds n) (tail-of (ours .rows) r) in
-      let e : (a Absent && b Absent) ≡ true = subst (λ (f : Found). (a f && b f) ≡ true) x (each-of test (ours .count) r l rows) in (
-        omega (arith, eqb-true (0 + n) (height-of (ours .rows) r) (and-left (a Absent) (b Absent) e)),
-        same-is (grown no-digest ds n) (tail-of (ours .rows) r) (and-right (a Absent) (b Absent) e),
+      let e : (a (Absent k) && b (Absent k)) ≡ true = subst (λ (f : Found). (a f && b f) ≡ true) x (each-of test (ours .count) r l rows) in (
+        omega (arith, eqb-true (0 + n) (height-of (ours .rows) r) (and-left (a (Absent k)) (b (Absent k)) e)),
+        same-is (grown no-digest ds n) (tail-of (ours .rows) r) (and-right (a (Absent k)) (b (Absent k)) e),
       )
 
   -- another old roll than i has row r

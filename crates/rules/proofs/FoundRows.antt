@@ -6,12 +6,12 @@ use Prim.Native.Nat.{ℕ, zero, suc, _+_, _≤_, _<_}
 use native.Mathlib.Omega.{arith}
 use borrow.Author.Tests.{leb-true, le-leb, ne-eqb, not-true}
 use lib.Dec.{eqb, leb}
-use Rattle.octets.specs.Strings.{all-zero, same}
+use Rattle.octets.specs.Strings.{all-zero}
 use Rattle.octets.proofs.RoundTrips.{and-left, and-right}
 use Rattle.rows.specs.Sizes.{top-height}
 use Rattle.rows.specs.Row.{label-of, tail-of, height-of, row-holds, row-fits}
 use Rattle.rows.specs.Table.{rises, stands, rows-fit}
-use Rattle.rows.specs.Search.{or-else, first-of, find}
+use Rattle.rows.specs.Search.{or-next, first-of, find}
 use Rattle.rows.specs.declared.Found.{Found}
 use Rattle.rows.specs.declared.Found.the-variants.{At, Absent}
 use Rattle.rows.proofs.Tables.{each-of, fit-stands}
@@ -23,7 +23,7 @@ pub first-same : (a b label : List ℕ) (n : ℕ) → ((j : ℕ) → j < n → l
 unfolding first-of
 first-same a b label zero e = refl
 first-same a b label (suc n) e =
-    ap₂ (λ (f : Found) (l : List ℕ). or-else f (cond (same l label) (At n) Absent)) (first-same a b label n (λ j h. e j (omega arith))) (e n (omega arith))
+    ap₂ (λ (f : Found) (l : List ℕ). or-next f n l label) (first-same a b label n (λ j h. e j (omega arith))) (e n (omega arith))
 
 pub stands-row : (rows : List ℕ) (i : ℕ) → stands rows i ≡ true → row-holds (label-of rows i) (tail-of rows i) (height-of rows i) ≡ true
 unfolding row-fits stands
@@ -41,7 +41,7 @@ row-found count rows label fit there = go (find count rows label) refl there
     go (At i) p e =
         let r = found-is count rows label i fit p in
         (r .0, rw (r .1) at (stands-row rows i (each-of (stands rows) count i (r .0) (fit-stands count rows fit))))
-    go Absent p e = let z : _≡_ {A = ℕ} 0 1 = cc in absurd (omega arith)
+    go (Absent k) p e = let z : _≡_ {A = ℕ} 0 1 = cc in absurd (omega arith)
 
 module _ (label tail : List ℕ) (height : ℕ) where
   pub row-labelled : row-holds label tail height ≡ true → all-zero label ≡ false

@@ -5,6 +5,7 @@ pub mod Refused
 pub mod FoundRows
 pub mod Initialised
 pub mod Noted
+pub mod NewPlace
 pub mod Finalised
 pub mod Somes
 pub mod Derived

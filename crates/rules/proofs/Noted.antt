@@ -15,7 +15,7 @@ use Rattle.rows.specs.Sizes.{top-height, row-bytes, table-bytes, most-rows}
 use Rattle.rows.specs.Row.{row-holds}
 use Rattle.rows.specs.Table.{rows-fit}
 use Rattle.rows.proofs.Tables.{fit-length, fit-count}
-use Rattle.rows.proofs.Searches.{found-is}
+use Rattle.rows.proofs.Searches.{found-is, absent-is}
 use Rattle.statement.specs.Kinds.{digest-bytes, receipt-size, reading-size}
 use Rattle.rules.specs.Record.{active}
 use Rattle.rules.specs.Outcomes.{Lent, readiness}
@@ -56,19 +56,20 @@ rowed size k label r there = go (sought k label) refl there
           within = omega (arith, w .0);
           holds = row-found (k .head .count) (k .table) label fit there .1;
         }
-    go Absent p e = let z : _≡_ {A = Bool} true false = e in let y : _≡_ {A = ℕ} 0 1 = cc in absurd (omega arith)
+    go (Absent n) p e = let z : _≡_ {A = Bool} true false = e in let y : _≡_ {A = ℕ} 0 1 = cc in absurd (omega arith)
 
 pub record Makeable (k : Lent) (label : List ℕ) : Type 0 where
   pub room : receipt-size ≤ length (k .area)
   pub was : k .head .status ≡ active
   pub fit : rows-fit (k .head .count) (k .table) ≡ true
   pub labelled : all-zero label ≡ false
-  pub new : sought k label ≡ Absent
+  pub new : sought k label ≡ Absent (row-of k label)
+  pub place : row-of k label ≤ k .head .count
   pub few : k .head .count < most-rows
 
-absent-so : (f : Found) → not (is-absent f) ≡ false → f ≡ Absent
+absent-so : (f : Found) → not (is-absent f) ≡ false → f ≡ Absent (row-number f)
 absent-so (At i) e = let z : _≡_ {A = Bool} true false = e in cc
-absent-so Absent e = refl
+absent-so (Absent n) e = refl
 
 pub makeable : (k : Lent) (label : List ℕ) → new-refusal k label ≡ accepted → Makeable k label
 unfolding new-refusal
@@ -78,13 +79,15 @@ makeable k label e =
     let b = passes (not (is-absent (sought k label))) ledger-exists _ (eqb-false 9 0 refl) (a .1) in
     let c = passes (eqb (k .head .count) most-rows) table-full _ (eqb-false 13 0 refl) (b .1) in
     let fit : rows-fit (k .head .count) (k .table) ≡ true = sound-rows (k .head) (k .table) (r .0 .sounds) in
+    let new : sought k label ≡ Absent (row-of k label) = absent-so (sought k label) (b .0) in
     let full : (k .head .count ≡ most-rows → ⊥) = eqb-false (k .head .count) most-rows (c .0) in
     record {
       room = r .0 .room;
       was = r .0 .acts;
       fit = fit;
       labelled = a .0;
-      new = absent-so (sought k label) (b .0);
+      new = new;
+      place = absent-is (k .head .count) (k .table) label (row-of k label) fit new .0;
       few = omega (arith, fit-count (k .head .count) (k .table) fit);
     }
 

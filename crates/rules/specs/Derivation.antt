@@ -41,11 +41,11 @@ grown tail s (suc n) = appended (grown tail s n) (take digest-bytes (drop (diges
 -- "A row missing from an old roll shall count as height 0 with the zero tail"
 abbrev pub counted-height : Roll → Found → ℕ
 counted-height old (At q) = height-of (old .rows) q
-counted-height old Absent = 0
+counted-height old (Absent n) = 0
 
 abbrev pub counted-tail : Roll → Found → List ℕ
 counted-tail old (At q) = tail-of (old .rows) q
-counted-tail old Absent = no-digest
+counted-tail old (Absent n) = no-digest
 
 -- "its height plus the count equals ours and appending the listed digests to its tail gives our tail": for row r of ours, with n digests in a string
 unfoldable pub row-derived : Roll → Roll → ℕ → List ℕ → ℕ → Bool

@@ -14,8 +14,8 @@ use Rattle.statement.specs.Cut.{no-digest}
 use Rattle.rules.specs.declared.Head.{Head}
 use Rattle.rules.specs.Record.{active}
 use Rattle.rules.specs.Outcomes.{Lent, Outcome, given, unless, readiness}
-use Rattle.rules.specs.Table.{smaller, widened}
-use Rattle.rules.specs.Rows.{is-absent, sought, receipt-of}
+use Rattle.rules.specs.Table.{widened}
+use Rattle.rules.specs.Rows.{is-absent, row-number, sought, receipt-of}
 
 abbrev pub one-more : Head → Head
 one-more h = record { status = h .status; count = h .count + 1; key = h .key; identity = h .identity; own = h .own; previous = h .previous; next = h .next }
@@ -33,4 +33,4 @@ unfoldable pub making : Lent → List ℕ → Outcome
 making k label =
     unless (new-refusal k label) 0 k
     (given (statement-written (receipt-of (k .head) New label no-digest)) (one-more (k .head))
-    (widened (k .table) (smaller (k .head .count) (k .table) label) label) (k .area))
+    (widened (k .table) (row-number (sought k label)) label) (k .area))

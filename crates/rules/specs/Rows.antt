@@ -14,12 +14,12 @@ use Rattle.rules.specs.Outcomes.{Lent}
 
 abbrev pub is-absent : Found → Bool
 is-absent (At i) = false
-is-absent Absent = true
+is-absent (Absent n) = true
 
--- the row's number; 0 where there is none
+-- the row's number; where there is none, the number that it gets, as many rows having a smaller label
 abbrev pub row-number : Found → ℕ
 row-number (At i) = i
-row-number Absent = 0
+row-number (Absent n) = n
 
 -- the search for a label in a keeper's roll
 abbrev pub sought : Lent → List ℕ → Found

@@ -1,17 +1,10 @@
 -- A row added to the table, and a row moved on. 01, "New": "The row is added in label order at height 0."
-use mathlib.Core.Bool.{cond}
 use mathlib.Core.List.{List, _++_}
-use Prim.Native.Nat.{ℕ, zero, suc, _+_, _*_}
+use Prim.Native.Nat.{ℕ, _+_, _*_}
 use lib.ListN.{length, take, drop, replicate}
 use Rattle.octets.specs.Numbers.{bytes-of}
-use Rattle.octets.specs.Strings.{put, before}
+use Rattle.octets.specs.Strings.{put}
 use Rattle.rows.specs.Sizes.{label-bytes, tail-bytes, height-bytes, row-bytes}
-use Rattle.rows.specs.Row.{label-of}
-
--- how many of the first n rows have a smaller label
-unfoldable pub smaller : ℕ → List ℕ → List ℕ → ℕ
-smaller zero rows label = 0
-smaller (suc n) rows label = smaller n rows label + cond (before (label-of rows n) label) 1 0
 
 -- the row of a new ledger
 abbrev pub new-row : List ℕ → List ℕ

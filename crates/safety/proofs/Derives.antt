@@ -63,7 +63,7 @@ module _ (ours old : Roll) where
       where
         go : (f : Found) → find (ours .count) (ours .rows) label ≡ f → not (is-absent f) ≡ true → Reaches ours label (height-of (old .rows) q) (tail-of (old .rows) q)
         go (At r) p e = reached label q r old-has p
-        go Absent p e = let z : _≡_ {A = Bool} false true = e in let y : _≡_ {A = ℕ} 0 1 = cc in absurd (omega arith)
+        go (Absent k) p e = let z : _≡_ {A = Bool} false true = e in let y : _≡_ {A = ℕ} 0 1 = cc in absurd (omega arith)
 
     pub derived-grows : Grows old ours
     derived-grows =

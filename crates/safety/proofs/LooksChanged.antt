@@ -67,8 +67,14 @@ module _ (count : ℕ) (rows : List ℕ) (i : ℕ) (tail : List ℕ) (height : �
               agrees = λ x. absurd (omega arith);
             }
 
-module _ (count : ℕ) (rows label : List ℕ) (i : ℕ) (fit : rows-fit count rows ≡ true) (room : count < most-rows) (place : i ≤ count) (sized : length label ≡ label-bytes)
-    (new : find count rows label ≡ Absent) where
+module _ (count : ℕ) (rows label : List ℕ) (i : ℕ) (fit : rows-fit count rows ≡ true) (room : count < most-rows) (sized : length label ≡ label-bytes)
+    (new : find count rows label ≡ Absent i) where
+  place : i ≤ count
+  place = absent-is count rows label i fit new .0
+
+  unknown : (m : ℕ) → m < count → label-of rows m ≡ label → ⊥
+  unknown = absent-is count rows label i fit new .1
+
   abbrev narrow : Roll
   narrow = record { count = count; rows = rows }
 
@@ -76,7 +82,7 @@ module _ (count : ℕ) (rows label : List ℕ) (i : ℕ) (fit : rows-fit count r
   wide = record { count = count + 1; rows = widened rows i label }
 
   within : row-bytes * i + row-bytes ≤ length rows
-  within = omega (arith, fit-length count rows fit)
+  within = omega (arith, place, fit-length count rows fit)
 
   wide-finds : (sought : List ℕ) (j : ℕ) → first-of (count + 1) (widened rows i label) sought ≡ At j → find (count + 1) (widened rows i label) sought ≡ At j
   unfolding find
@@ -95,18 +101,18 @@ module _ (count : ℕ) (rows label : List ℕ) (i : ℕ) (fit : rows-fit count r
   widened-shows =
       look-at wide label i
       (wide-finds label i
-      (found-first (widened rows i label) label (count + 1) i (omega arith)
-      (λ m h e. absent-is count rows label fit new m (omega arith) (sym (label-before m h) ∙ e)) (widens.label-new rows label i within sized)))
+      (found-first (widened rows i label) label (count + 1) i (omega (arith, place))
+      (λ m h e. unknown m (omega (arith, place)) (sym (label-before m h) ∙ e)) (widens.label-new rows label i within sized)))
       ∙ ap₂ standing (widens.height-new rows label i within sized) (widens.tail-new rows label i within sized)
 
   -- a row of another label stands at its old place or at the next
   module _ (other : List ℕ) (j : ℕ) (found : find count rows other ≡ At j) where
     earlier : (m : ℕ) → m < j → label-of rows m ≡ other → ⊥
     unfolding find
-    earlier = none-is rows other j (none-earlier rows other (held count rows) j found)
+    earlier = none-is rows other j _ (none-earlier rows other (held count rows) j found) .1
 
     differs : label ≡ other → ⊥
-    differs e = let w = found-is count rows other j fit found in absent-is count rows label fit new j (w .0) (w .1 ∙ sym e)
+    differs e = let w = found-is count rows other j fit found in unknown j (w .0) (w .1 ∙ sym e)
 
     stays-before : j < i → find (count + 1) (widened rows i label) other ≡ At j
     stays-before h =

@@ -1,28 +1,16 @@
 -- Laws of a table with a row more: the new row, and those before and behind it. Assumes nothing.
 use mathlib.Core.Path.{_≡_, sym, ap, _∙_}
-use mathlib.Core.Bool.{Bool, true, false, cond}
 use mathlib.Core.List.{List, _++_}
-use Prim.Native.Nat.{ℕ, zero, suc, _+_, _-_, _*_, _≤_, _<_}
+use Prim.Native.Nat.{ℕ, suc, _+_, _-_, _*_, _≤_, _<_}
 use native.Mathlib.Omega.{arith}
 use lib.ListN.{length, take, drop, replicate, length-append, length-replicate}
 use lib.Seq.{take-at, drop-at, drop-drop, take-all, length-take-le}
 use Rattle.octets.specs.Numbers.{number-of}
-use Rattle.octets.specs.Strings.{before}
 use Rattle.rows.specs.Sizes.{label-bytes, tail-bytes, height-bytes, row-bytes}
 use Rattle.rows.specs.Row.{label-of, tail-of, height-of}
 use Rattle.statement.specs.Cut.{no-digest}
-use Rattle.rules.specs.Table.{smaller, new-row, widened}
+use Rattle.rules.specs.Table.{new-row, widened}
 use Rattle.rules.proofs.RowsParts.{part-front, part-back, part-cut, part-part, row-at, label-in, tail-in, height-in-row}
-
-at-most-one : (b : Bool) → cond b 1 0 ≤ 1
-at-most-one true = omega arith
-at-most-one false = omega arith
-
--- a new row's place is one of those in use, or the next
-pub smaller-most : (n : ℕ) (rows label : List ℕ) → smaller n rows label ≤ n
-unfolding smaller
-smaller-most zero rows label = omega arith
-smaller-most (suc n) rows label = omega (arith, smaller-most n rows label, at-most-one (before (label-of rows n) label))
 
 module _ (t label : List ℕ) (i : ℕ) (within : row-bytes * i + row-bytes ≤ length t) (sized : length label ≡ label-bytes) where
   abbrev longer : List ℕ

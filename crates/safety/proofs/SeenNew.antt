@@ -11,17 +11,16 @@ use Rattle.statement.specs.Kinds.{label-bytes, receipt-size}
 use Rattle.statement.specs.Contents.{statement-written}
 use Rattle.statement.specs.Cut.{cut-statement, no-digest}
 use Rattle.rules.specs.Outcomes.{given}
-use Rattle.rules.specs.Table.{smaller, widened}
+use Rattle.rules.specs.Table.{widened}
 use Rattle.rules.specs.Rows.{receipt-of}
 use Rattle.rules.specs.New.{one-more, new-refusal, making}
-use Rattle.rules.proofs.Noted.{Makeable, makeable}
+use Rattle.rules.proofs.Noted.{row-of, Makeable, makeable}
 use Rattle.safety.specs.Calls.{Keeper, Call, lent, outcome-of, left-by, statements-in}
 use Rattle.safety.specs.Calls as calls
 use Rattle.safety.proofs.Views.{View, notes}
 use Rattle.safety.proofs.Tales.{says}
 use Rattle.safety.proofs.Ended.{unless-refused, Gives, gives, seen-by, alone-in}
 use Rattle.safety.proofs.Sizes.{Whole}
-use Rattle.safety.proofs.RowsWidened.{smaller-most}
 use Rattle.safety.proofs.LooksChanged.{widened-shows, widened-grows}
 use Rattle.safety.proofs.Receipts.{Signed, new-signed, notes-one}
 
@@ -30,7 +29,7 @@ module _ (Hashes : List ℕ → Type 0) (Said : List ℕ → Statement → Type 
   this = calls.New label area
 
   abbrev place : ℕ
-  place = smaller (k .head .count) (k .table) label
+  place = row-of (lent k area) label
 
   abbrev left : Keeper
   left = record { head = one-more (k .head); table = widened (k .table) place label }
@@ -45,17 +44,16 @@ module _ (Hashes : List ℕ → Type 0) (Said : List ℕ → Statement → Type 
     noting : Makeable (lent k area) label → Gives key k this word (one-more (k .head)) (widened (k .table) place label) area → Looks
     unfolding statements-in
     noting m g =
-        let most = smaller-most (k .head .count) (k .table) label in
         let nonzero : not (all-zero label) ≡ true = ap not (m .labelled) in
         let s : Signed left receipt-size word =
         new-signed (k .head) whole label no-digest (sized) refl left refl refl nonzero refl
-        (widened-shows (k .head .count) (k .table) label place (m .fit) (m .few) most (sized) (m .new)) in
+        (widened-shows (k .head .count) (k .table) label place (m .fit) (m .few) (sized) (m .new)) in
         seen-by (g .leaves) (ap (map cut-statement) (g .signs) ∙ ap (λ (t : List ℕ). cut-statement t ∷ []) (alone-in area word receipt-size (s .long)))
         (notes (record {
           was = m .was;
           is = m .was;
           stays = record { identity = refl; own = refl; previous = refl };
-          grows = widened-grows (k .head .count) (k .table) label place (m .fit) (m .few) most (sized) (m .new);
+          grows = widened-grows (k .head .count) (k .table) label place (m .fit) (m .few) (sized) (m .new);
           notes = notes-one left (cut-statement word) (s .shows);
         }))
 

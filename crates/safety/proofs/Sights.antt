@@ -1,17 +1,15 @@
 -- Laws of what a roll shows: rows that are reached stay reached, and rolls with one string show the same. Assumes nothing.
 use mathlib.Core.Path.{_≡_, refl, sym, ap, ap₂, _∙_}
-use mathlib.Core.Bool.{cond}
 use mathlib.Core.List.{List, [], _∷_}
 use Prim.Native.Nat.{ℕ, zero, suc, _+_, _*_, _≤_, _<_}
 use native.Mathlib.Omega.{arith}
 use lib.ListN.{take, drop}
-use Rattle.octets.specs.Strings.{same}
 use Rattle.octets.specs.Numbers.{number-of}
 use Rattle.rows.specs.Sizes.{label-bytes, tail-bytes, height-bytes, row-bytes}
 use Rattle.rows.specs.Row.{label-of, tail-of, height-of}
 use Rattle.rows.specs.declared.Found.{Found}
 use Rattle.rows.specs.declared.Found.the-variants.{At, Absent}
-use Rattle.rows.specs.Search.{held, or-else, first-of, find}
+use Rattle.rows.specs.Search.{held, or-next, first-of, find}
 use Rattle.rows.specs.Digests.{roll-string}
 use Rattle.rows.proofs.Searches.{first-is}
 use Rattle.roll.specs.Roll.{Roll}
@@ -77,14 +75,14 @@ module _ (n : ℕ) (a b : List ℕ) (e : take (row-bytes * n) a ≡ take (row-by
   unfolding first-of
   first-same zero label h = refl
   first-same (suc m) label h =
-      ap₂ (λ (f : Found) (l : List ℕ). or-else f (cond (same l label) (At m) Absent)) (first-same m label (omega arith)) (label-same m h)
+      ap₂ (λ (f : Found) (l : List ℕ). or-next f m l label) (first-same m label (omega arith)) (label-same m h)
 
   seen-same : (f : Found) (label : List ℕ) → first-of n a label ≡ f → seen-at a f ≡ seen-at b f
   unfolding seen-at
   seen-same (At i) label h =
       let below = first-is a label n i h .0 in
       ap₂ standing (height-same i below) (tail-same i below)
-  seen-same Absent label h = refl
+  seen-same (Absent k) label h = refl
 
   find-same : (label : List ℕ) → seen-at a (first-of n a label) ≡ seen-at b (first-of n b label)
   find-same label = seen-same (first-of n a label) label refl ∙ ap (seen-at b) (first-same n label (omega arith))

@@ -34,7 +34,7 @@ pub data Seen : Type 0 where
 
 unfoldable pub seen-at : List ℕ → Found → Seen
 seen-at rows (At i) = standing (height-of rows i) (tail-of rows i)
-seen-at rows Absent = nothing
+seen-at rows (Absent k) = nothing
 
 unfoldable pub look : Roll → List ℕ → Seen
 look v label = seen-at (v .rows) (find (v .count) (v .rows) label)

@@ -107,7 +107,7 @@ pub empty-fits : rows-fit 0 empty-table ≡ true
 unfolding tables
 empty-fits = refl
 
-pub none-found : find 0 empty-table ledger ≡ Absent
+pub none-found : find 0 empty-table ledger ≡ Absent 0
 unfolding tables
 none-found = refl
 

@@ -19,7 +19,7 @@ use Rattle.statement.specs.Contents.{receipt as receipt-written, body, statemen
 use Rattle.statement.specs.Cut.{no-digest, no-label}
 use Rattle.rules.specs.Record.{sound}
 use Rattle.rules.specs.Outcomes.{given, lending, readiness}
-use Rattle.rules.specs.Table.{smaller, moved}
+use Rattle.rules.specs.Table.{widened, moved}
 use Rattle.rules.specs.Rows.{is-absent, row-number, receipt-of}
 use Rattle.rules.specs.Wake.{waking}
 use Rattle.rules.specs.Initialise.{absent, is-in-rack, initialise-refusal, initialise-statement, founded as head-founded, preparing, entered, initialising}
@@ -76,13 +76,16 @@ founds-so who e =
 -- New
 pub makes-so : (who : List ℕ)
     → Gives who (founded who) makes (keeping who young) (statement-written (receipt-of (founded who .head) New ledger no-digest)) (replicate 121 0)
-unfolding outcome-of making new-refusal readiness lending sound all-zero smaller
+unfolding outcome-of making new-refusal readiness lending sound all-zero
 makes-so who =
     record {
       outcome-is =
           takes-effect _ _ _ _
           (lets-all
           (also refl (also (ap not empty-fits) (also refl (also refl (also (ap (λ (f : Found). not (is-absent f)) none-found) (also refl end)))))))
+          ∙ (λ i.
+          given (statement-written (receipt-of (founded who .head) New ledger no-digest)) (keeping who young .head)
+          (widened empty-table (row-number (none-found i)) ledger) (replicate 121 0))
           ∙ (λ i. given (statement-written (receipt-of (founded who .head) New ledger no-digest)) (keeping who young .head) (row-added i) (replicate 121 0));
     }
 

@@ -7,7 +7,6 @@ use denote.Ref.{now}
 use borrow.Author.Tests.{not-true, not-false}
 use borrow.Author.Needs.{needs}
 use Rattle.refusals.specs.Order.{first}
-use Rattle.rows.proofs.Tables.{fit-length}
 use Rattle.rules.specs.Outcomes.{Lent}
 use Rattle.rules.specs.Activate.{handover-tests}
 use Rattle.handover.specs.Asked.{few}
@@ -75,7 +74,7 @@ cast-derived c = search needs
 derived-requires : tie.Need-derived-requires
 derived-requires c κs =
     let start = c .before .before .before .before .before .before .before .before .before .before .before in
-    (laid (start .pre), fit-length (start .args .head .count) (now (start .args .table)) (start .pre .rows), start .pre .rolls)
+    (laid (start .pre), start .pre .rows, start .pre .rolls)
 
 returns-4 : tie.Need-returns-4
 unfolding first

@@ -7,7 +7,7 @@ use Rattle.refusals.specs.Order.{first}
 use Rattle.rules.specs.Outcomes.{Lent}
 use Rattle.rules.specs.Rows.{row-number}
 use Rattle.ledgers.specs.Tests.{place-if}
-use Rattle.ledgers.proofs.Actives.{unready-first, ready-first}
+use Rattle.ledgers.proofs.Actives.{unready-first, ready-first, ready-rows}
 use Rattle.ledgers.proofs.search.seek.Statement.{statement}
 use Rattle.ledgers.proofs.search.seek.Tie as tie
 
@@ -26,7 +26,11 @@ cast-find : tie.Need-cast-find
 cast-find c = search needs
 
 find-requires : tie.Need-find-requires
-find-requires c κs = search needs
+find-requires c κs =
+    let a = c .before .before .before .before .before .args in
+    let k : Lent = record { head = a .head; table = now (a .table); area = now (a .area) } in
+    let u = c .before .before .unready in
+    ready-rows (a .size) k (u .result) (u .ensures) (c .before .if1 .left)
 
 enum-known-i : tie.Need-enum-known-i
 enum-known-i c = search needs

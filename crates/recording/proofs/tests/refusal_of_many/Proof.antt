@@ -13,7 +13,7 @@ use Rattle.rules.specs.Outcomes.{Lent, refusing}
 use Rattle.rules.specs.Rows.{sought, row-number}
 use Rattle.ledgers.proofs.Places.{placed, unplaced}
 use Rattle.recording.specs.Tests.{ordered, many-told}
-use Rattle.recording.proofs.Parts.{unlisted-answer, absent-answer, found-many, place-within, table-long, height-there, height-below}
+use Rattle.recording.proofs.Parts.{fit, unlisted-answer, absent-answer, found-many, place-within, table-long, height-there, height-below}
 use borrow.Author.Needs.{needs}
 use Rattle.recording.proofs.tests.refusal_of_many.Statement.{statement}
 use Rattle.recording.proofs.tests.refusal_of_many.Tie as tie
@@ -50,7 +50,11 @@ cast-find : tie.Need-cast-find
 cast-find c = search needs
 
 find-requires : tie.Need-find-requires
-find-requires c κs = search needs
+find-requires c κs =
+    let s = c .before .before .before .before .before .before in
+    let a = s .args in
+    let u = c .before .before .unlisted in
+    fit (asked s) (a .label) (list-of s) (a .expected) (u .result) (u .ensures) (c .before .if1 .left)
 
 enum-known-i : tie.Need-enum-known-i
 enum-known-i c = search needs
@@ -68,9 +72,11 @@ returns-2 c =
     let s = if1 .before .before .before .before .before in
     let a = s .args in
     let u = if1 .before .unlisted in
-    let none : sought (asked s) (a .label) ≡ Absent = sym (finds .find .ensures) ∙ c .before .enum-told .given .1 in
+    let i : ℕ = c .before .enum-told .given .0 .0 in
+    let none : sought (asked s) (a .label) ≡ Absent i = sym (finds .find .ensures) ∙ c .before .enum-told .given .1 in
     let told = c .refusal2 .ensures in (
-      told ∙ ap (λ (x : Answer). record { answer = x; head = a .head }) (absent-answer (asked s) (a .label) (list-of s) (a .expected) (u .result) (u .ensures) (if1 .if1 .left) none),
+      told ∙ ap (λ (x : Answer). record { answer = x; head = a .head })
+          (absent-answer (asked s) (a .label) (list-of s) (a .expected) (u .result) (u .ensures) (if1 .if1 .left) i none),
       sym (unplaced (c .refusal2 .result .answer .number) (sought (asked s) (a .label)) (λ z. omega (arith, ap (λ (t : Told). t .answer .number) told, z))),
     )
 

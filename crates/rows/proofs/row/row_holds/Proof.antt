@@ -2,7 +2,6 @@
 use mathlib.Core.Path.{_≡_, sym, _∙_}
 use mathlib.Core.Bool.{true, false}
 use denote.Ref.{now}
-use borrow.Author.Tests.{le-leb, lt-leb, eq-eqb, ne-eqb}
 use borrow.Author.Needs.{needs}
 use Rattle.octets.specs.Strings.{all-zero}
 use Rattle.rows.specs.Row.{row-holds}
@@ -18,27 +17,15 @@ returns c =
     let z : all-zero (now (c .before .before .before .before .args .label)) ≡ true = sym (c .before .is-zero .ensures) ∙ c .if1 .taken in
     rw z
 
+tail-holds-requires : tie.Need-tail-holds-requires
+tail-holds-requires c κs = search needs
+
 returns-2 : tie.Need-returns-2
 unfolding row-holds
 returns-2 c =
     let z : all-zero (now (c .before .before .before .before .before .args .label)) ≡ false = sym (c .before .before .is-zero .ensures) ∙ c .before .if1 .left in
-    rw (z, lt-leb _ _ (c .if2 .taken))
-
-is-zero-requires-2 : tie.Need-is-zero-requires-2
-is-zero-requires-2 c κs = search needs
-
-returns-3 : tie.Need-returns-3
-unfolding row-holds
-returns-3 c =
-    let z : all-zero (now (c .before .before .before .before .before .before .before .args .label)) ≡ false = sym (c .before .before .before .before .is-zero .ensures) ∙ c .before .before .before .if1 .left in
-    rw (z, le-leb _ _ (c .before .before .if2 .left), eq-eqb _ _ (c .before .if3 .taken)) (c .is-zero2 .ensures)
-
-returns-4 : tie.Need-returns-4
-unfolding row-holds
-returns-4 c =
-    let z : all-zero (now (c .before .before .before .before .before .before .args .label)) ≡ false = sym (c .before .before .before .is-zero .ensures) ∙ c .before .before .if1 .left in
-    rw (z, le-leb _ _ (c .before .if2 .left), ne-eqb _ _ (c .if3 .left))
+    rw z (c .tail-holds .ensures)
 
 pub row-holds-spec : {M : Type 1} → statement M
 row-holds-spec =
-    tie.close (tie.spec is-zero-requires returns returns-2 is-zero-requires-2 returns-3 returns-4)
+    tie.close (tie.spec is-zero-requires returns tail-holds-requires returns-2)

@@ -1,0 +1,2 @@
+-- Two rolls in label order, looked through together.
+pub mod Walk
