@@ -41,7 +41,15 @@ static void prepare(void)
                                 handover.previous.bytes, MAHQURITH_RACK, handover.own.bytes, MAHQURITH_RACK, area, sizeof area));
 }
 
-static void new_ledger(void) { settle(mahqurith_new(&box.head, box.rows, MAHQURITH_ROWS, about(ledgers), area, sizeof area)); }
+/* A ledger of the company that has none. */
+static mahqurith_asked another(void)
+{
+    mahqurith_asked asked = about(ledgers);
+    asked.label[0] = 128;
+    return asked;
+}
+
+static void new_ledger(void) { settle(mahqurith_new(&box.head, box.rows, MAHQURITH_ROWS, another(), area, sizeof area)); }
 
 static void append(void) { settle(mahqurith_append(&box.head, box.rows, MAHQURITH_ROWS, last(), area, sizeof area)); }
 

@@ -55,7 +55,8 @@ struct box active_box(const struct rack *rack, int number, int ledgers)
                               sizeof area),
          "initialise");
     for (int i = 0; i < ledgers; i++)
-        must(mahqurith_new(&box.head, box.rows, MAHQURITH_ROWS, about(i), area, sizeof area), "new");
+        memcpy(box.rows[i].label, about(i).label, MAHQURITH_LABEL);
+    box.head.count = (uint8_t)ledgers;
     return box;
 }
 

@@ -22,7 +22,7 @@ const uint8_t *key_of(const struct rack *rack, int box);
 /* Labels that differ in the last byte only: the dearest to compare. */
 mahqurith_asked about(int ledger);
 
-/* Active, founded, with so many ledgers at height 0. */
+/* Active, founded, with so many ledgers at height 0, as an earlier roll may bring them: New makes 31 of one company at most. */
 struct box active_box(const struct rack *rack, int box, int ledgers);
 
 /* What a box's Finalise wrote. */

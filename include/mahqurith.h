@@ -46,7 +46,7 @@ extern "C" {
  * are not to be mixed.
  */
 #define MAHQURITH_VERSION_MAJOR 1
-#define MAHQURITH_VERSION_MINOR 6
+#define MAHQURITH_VERSION_MINOR 7
 
 /*
  * Answers: 0, or the refusal's number; mahqurith_meaning says what each means. Tests are made in the order that each call
@@ -83,7 +83,8 @@ enum {
     MAHQURITH_TEXT_TOO_LONG = 33,
     MAHQURITH_STORE_FULL = 34,
     MAHQURITH_BLOCK_DAMAGED = 35,
-    MAHQURITH_RACK_OF_TWO = 38
+    MAHQURITH_RACK_OF_TWO = 38,
+    MAHQURITH_COMPANY_FULL = 39
 };
 
 /* What an answer means, in English. Never null: a number that no call gives has a text that says so. */
@@ -122,6 +123,7 @@ static inline const char *mahqurith_meaning(uint32_t number)
     case MAHQURITH_STORE_FULL: return "every block of the store is used";
     case MAHQURITH_BLOCK_DAMAGED: return "no undamaged block answers, and the store holds a damaged one";
     case MAHQURITH_RACK_OF_TWO: return "rack of two";
+    case MAHQURITH_COMPANY_FULL: return "company with 31 rows or more";
     default: return "no answer of this library";
     }
 }
@@ -226,7 +228,10 @@ mahqurith_answer mahqurith_initialise(mahqurith_head *head, mahqurith_row *rows,
                                       size_t previous_length, const uint8_t *own, size_t own_length, uint8_t *area,
                                       size_t area_length);
 
-/* Reads label. Area: MAHQURITH_RECEIPT. Refuses: 1, 2, 4, 14, 9, 13. */
+/*
+ * Reads label. Area: MAHQURITH_RECEIPT. Refuses: 1, 2, 4, 14, 9, 39, 13. Labels whose first byte is below 128 are one company's,
+ * the others another's. A company with 31 rows or more gets no new one; 13 is met only where an earlier roll brought rows.
+ */
 mahqurith_answer mahqurith_new(mahqurith_head *head, mahqurith_row *rows, size_t row_count, mahqurith_asked asked,
                                uint8_t *area, size_t area_length);
 

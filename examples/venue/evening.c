@@ -1,4 +1,4 @@
-/* The story: a matinee, a power failure, an evening with a handover in the interval, and seven things that must not work. */
+/* The story: a matinee, a power failure, an evening with a handover in the interval, and eight things that must not work. */
 #include "venue.h"
 
 static desk console;
@@ -260,6 +260,25 @@ static void two_heirs(void) {
     puts("   Not refused, and of no use: the box repeats its first statement, which names rack B, and signs nothing.");
 }
 
+/* What box B1 answers where a ledger is to be made; the first byte of its label names the company. */
+static uint32_t answer_to_new(uint8_t company, uint8_t number) {
+    request q = {.call = ASK_NEW, .asked.label = {company, number}};
+    pile p = errand(PASS, B, 0, &q);
+    must(p.count == 1, "the box replies");
+    return p.voices[0].reply.number;
+}
+
+static void whole_building(void) {
+    uint8_t made = 0;
+    puts("8. The whole building. A dance company shares the boxes. In its name the messenger has one ledger after the other made at box B1.");
+    while (made < MAHQURITH_ROWS && answer_to_new(128, made) == MAHQURITH_ACCEPTED)
+        made++;
+    must(made == 31, "a company gets 31 ledgers");
+    refused(answer_to_new(128, made), MAHQURITH_COMPANY_FULL, "31 ledgers of a company are all that it gets");
+    must(answer_to_new('t', 0) == MAHQURITH_ACCEPTED, "the other company gets a ledger");
+    puts("   The opera's next ledger is made all the same: its room is its own.");
+}
+
 int main(int count, char **words) {
     must(count == 4, "use: evening BOX MESSENGER FOLDER");
     setvbuf(stdout, NULL, _IOLBF, 0);
@@ -281,5 +300,6 @@ int main(int count, char **words) {
     brought_to_the_desk();
     forged_bundle();
     two_heirs();
+    whole_building();
     puts("\nTHE MORNING\nThe desk has written a receipt of each of its verdicts to a file, of those that refuse too. The electrician has this report of it:");
 }

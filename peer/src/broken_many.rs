@@ -8,70 +8,47 @@ use crate::row::{Row, TOP};
 use crate::rules::{Of01, Rules};
 use crate::sha256::digest_of;
 
-#[derive(Clone, Copy, PartialEq, Eq, Debug)]
-pub enum ManySlip {
-    /// An empty list taken: the row as it was, stated again.
-    EmptyTaken,
-    /// A list of 33 taken, or one of 32 refused.
-    OneMoreTaken,
-    LastRefused,
-    /// Bytes after the last whole digest left aside.
-    BytesLeftAside,
-    /// 32 before 4, after 10, or after 11.
-    ListBeforeStatus,
-    ListAfterLedger,
-    ListAfterHeight,
-    /// 12 before 11.
-    TopBeforeOrder,
-    /// Only the first entry held to the top.
-    FirstHeldToTop,
-    /// A last entry at the top itself refused.
-    TopRefused,
-    /// The entries appended up to the top and the others dropped.
-    RestDropped,
-    /// The entries appended up to the top, and then 12.
-    BegunAndRefused,
-    /// 11 where not the first entry passes the top.
-    TopOutOfOrder,
-    /// The expected height taken as the last entry's.
-    ExpectedOfLast,
-    /// The last digest alone in the tail, the digests from last to first, or all in one hash.
-    LastAlone,
-    Backwards,
-    AllAtOnce,
-    /// The height raised by one.
-    RaisedOnce,
-    /// The first append's statement.
-    StatementOfFirst,
-    /// An area asked for as many statements as entries.
-    AreaForEach,
-    /// 11 without the height.
-    PresentUntold,
+slips! {
+    pub enum ManySlip, all as MANY_SLIPS {
+        /// An empty list taken: the row as it was, stated again.
+        EmptyTaken,
+        /// A list of 33 taken, or one of 32 refused.
+        OneMoreTaken,
+        LastRefused,
+        /// Bytes after the last whole digest left aside.
+        BytesLeftAside,
+        /// 32 before 4, after 10, or after 11.
+        ListBeforeStatus,
+        ListAfterLedger,
+        ListAfterHeight,
+        /// 12 before 11.
+        TopBeforeOrder,
+        /// Only the first entry held to the top.
+        FirstHeldToTop,
+        /// A last entry at the top itself refused.
+        TopRefused,
+        /// The entries appended up to the top and the others dropped.
+        RestDropped,
+        /// The entries appended up to the top, and then 12.
+        BegunAndRefused,
+        /// 11 where not the first entry passes the top.
+        TopOutOfOrder,
+        /// The expected height taken as the last entry's.
+        ExpectedOfLast,
+        /// The last digest alone in the tail, the digests from last to first, or all in one hash.
+        LastAlone,
+        Backwards,
+        AllAtOnce,
+        /// The height raised by one.
+        RaisedOnce,
+        /// The first append's statement.
+        StatementOfFirst,
+        /// An area asked for as many statements as entries.
+        AreaForEach,
+        /// 11 without the height.
+        PresentUntold,
+    }
 }
-
-pub const MANY_SLIPS: [ManySlip; 21] = [
-    ManySlip::EmptyTaken,
-    ManySlip::OneMoreTaken,
-    ManySlip::LastRefused,
-    ManySlip::BytesLeftAside,
-    ManySlip::ListBeforeStatus,
-    ManySlip::ListAfterLedger,
-    ManySlip::ListAfterHeight,
-    ManySlip::TopBeforeOrder,
-    ManySlip::FirstHeldToTop,
-    ManySlip::TopRefused,
-    ManySlip::RestDropped,
-    ManySlip::BegunAndRefused,
-    ManySlip::TopOutOfOrder,
-    ManySlip::ExpectedOfLast,
-    ManySlip::LastAlone,
-    ManySlip::Backwards,
-    ManySlip::AllAtOnce,
-    ManySlip::RaisedOnce,
-    ManySlip::StatementOfFirst,
-    ManySlip::AreaForEach,
-    ManySlip::PresentUntold,
-];
 
 impl Rules for ManySlip {
     fn many(&self) -> &dyn ManyRules {

@@ -4,102 +4,63 @@ use crate::block::{check_of, BLOCK, CHECKED};
 use crate::rack;
 use crate::report::{judged_by_desk, printed_line, Line, Night, Receipt, ReportOf02, ReportRules, Unused, MOST_LABELS};
 
-#[derive(Clone, Copy, PartialEq, Eq, Debug)]
-pub enum ReportSlip {
-    /// A last short block not counted.
-    ShortUncounted,
-    /// A bad check, or unused bytes of this or that place, not looked at.
-    CheckUnread,
-    AfterRackUnread,
-    AfterStatementUnread,
-    AfterPairsUnread,
-    AfterReceiptUnread,
-    /// The check taken over the whole block with zeros in its own place.
-    CheckOverAll,
-    /// A rack of two taken as damaged, or a rack that isn't rising taken.
-    TwoDamaged,
-    RisingUnread,
-    /// A statement length that no kind has taken as damaged, or one of 138 as refused.
-    OtherLengthDamaged,
-    LongerRefused,
-    /// A signer count over the rack's taken as damaged.
-    CountDamaged,
-    /// An asked kind outside 1 to 3, a zero label or a nonce that doesn't count taken as damaged.
-    KindDamaged,
-    ZeroLabelDamaged,
-    NonceDamaged,
-    /// A damaged block unseats the rack, or gives its label a line.
-    DamageUnseats,
-    DamageHasLine,
-    /// The first rack kept.
-    FirstRackKept,
-    /// A receipt without a rack taken as accepted.
-    NoRackAccepted,
-    /// The identity held to the rack's digest.
-    IdentityOfRack,
-    /// The nonce not compared.
-    NonceUnread,
-    /// 62 or 64 labels known, or all receipts over from the 64th label on.
-    OneLabelFewer,
-    OneLabelMore,
-    AllOver,
-    /// The last accepted height in the place of the highest, or the lowest.
-    LastHeight,
-    LowestHeight,
-    /// `0` where none was accepted.
-    ZeroForNone,
-    /// The lines in the order of the labels, or the newest first.
-    LinesSorted,
-    LinesBackwards,
-    /// Upper-case hex.
-    UpperCase,
-    /// No heading for an empty file, no newline at the end, blocks rounded down.
-    NoHeading,
-    NoNewline,
-    BlocksRoundedDown,
-    /// Over counted among the damaged as well.
-    OverInDamaged,
-}
-
-pub const REPORT_SLIPS: [ReportSlip; 34] = {
-    use ReportSlip::*;
-    [
+slips! {
+    pub enum ReportSlip, all as REPORT_SLIPS {
+        /// A last short block not counted.
         ShortUncounted,
+        /// A bad check, or unused bytes of this or that place, not looked at.
         CheckUnread,
         AfterRackUnread,
         AfterStatementUnread,
         AfterPairsUnread,
         AfterReceiptUnread,
+        /// The check taken over the whole block with zeros in its own place.
         CheckOverAll,
+        /// A rack of two taken as damaged, or a rack that isn't rising taken.
         TwoDamaged,
         RisingUnread,
+        /// A statement length that no kind has taken as damaged, or one of 138 as refused.
         OtherLengthDamaged,
         LongerRefused,
+        /// A signer count over the rack's taken as damaged.
         CountDamaged,
+        /// An asked kind outside 1 to 3, a zero label or a nonce that doesn't count taken as damaged.
         KindDamaged,
         ZeroLabelDamaged,
         NonceDamaged,
+        /// A damaged block unseats the rack, or gives its label a line.
         DamageUnseats,
         DamageHasLine,
+        /// The first rack kept.
         FirstRackKept,
+        /// A receipt without a rack taken as accepted.
         NoRackAccepted,
+        /// The identity held to the rack's digest.
         IdentityOfRack,
+        /// The nonce not compared.
         NonceUnread,
+        /// 62 or 64 labels known, or all receipts over from the 64th label on.
         OneLabelFewer,
         OneLabelMore,
         AllOver,
+        /// The last accepted height in the place of the highest, or the lowest.
         LastHeight,
         LowestHeight,
+        /// `0` where none was accepted.
         ZeroForNone,
+        /// The lines in the order of the labels, or the newest first.
         LinesSorted,
         LinesBackwards,
+        /// Upper-case hex.
         UpperCase,
+        /// No heading for an empty file, no newline at the end, blocks rounded down.
         NoHeading,
         NoNewline,
         BlocksRoundedDown,
+        /// Over counted among the damaged as well.
         OverInDamaged,
-    ]
-};
+    }
+}
 
 /// The rules but for the slip.
 impl ReportRules for ReportSlip {

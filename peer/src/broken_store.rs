@@ -8,89 +8,58 @@ use crate::row::{appended, TOP};
 use crate::rules::{Of01, Rules};
 use crate::store::{having, of_label, Block, Said, StoreOf02, StoreRules};
 
-#[derive(Clone, Copy, PartialEq, Eq, Debug)]
-pub enum StoreSlip {
-    /// An area of no blocks refused.
-    NoBlocksRefused,
-    /// 129 blocks taken.
-    OneBlockMore,
-    /// Bytes after the last whole block left aside.
-    PartLeftAside,
-    /// 508 zeros under their right check taken as unused.
-    ZerosUnderCheck,
-    /// A wrong check, a wrong entry digest or bytes after the text not looked at.
-    CheckUnread,
-    DigestUnread,
-    ZerosUnread,
-    /// A block of a zero label, of height 0 or over the top taken.
-    ZeroLabelTaken,
-    HeightZeroTaken,
-    HeightOverTaken,
-    /// An empty text taken as damage.
-    EmptyTextDamaged,
-    /// The tail tested as well, at height 1.
-    TailTested,
-    /// The last block of greatest height followed, or the label's last block of whatever height.
-    LastOfGreatest,
-    LastOfLabel,
-    /// Every tail begun from the zero tail.
-    TailBegunAgain,
-    /// The last unused block taken, or the one after the last used.
-    LastUnused,
-    AfterLastUsed,
-    /// An unused block answers the zero label at height 0.
-    UnusedAnswers,
-    /// The last block that has both answers.
-    LastAnswers,
-    /// Append stops only at damage before the first unused block.
-    DamageAfterUnused,
-    /// Read refuses wherever there is damage, or tells of none.
-    AnyDamageRead,
-    DamageUntold,
-    /// 33 after 2, 14 after 11, 12 before 11, 34 before 11 and 12.
-    TextAfterArea,
-    LabelAfterHeight,
-    TopBeforeHeight,
-    FullBeforeHeight,
-    /// 11 without the height.
-    HeightUntold,
-    /// Read refuses the zero label.
-    ZeroLabelRead,
-    /// The output's rest cleared.
-    RestCleared,
+slips! {
+    pub enum StoreSlip, all as STORE_SLIPS {
+        /// An area of no blocks refused.
+        NoBlocksRefused,
+        /// 129 blocks taken.
+        OneBlockMore,
+        /// Bytes after the last whole block left aside.
+        PartLeftAside,
+        /// 508 zeros under their right check taken as unused.
+        ZerosUnderCheck,
+        /// A wrong check, a wrong entry digest or bytes after the text not looked at.
+        CheckUnread,
+        DigestUnread,
+        ZerosUnread,
+        /// A block of a zero label, of height 0 or over the top taken.
+        ZeroLabelTaken,
+        HeightZeroTaken,
+        HeightOverTaken,
+        /// An empty text taken as damage.
+        EmptyTextDamaged,
+        /// The tail tested as well, at height 1.
+        TailTested,
+        /// The last block of greatest height followed, or the label's last block of whatever height.
+        LastOfGreatest,
+        LastOfLabel,
+        /// Every tail begun from the zero tail.
+        TailBegunAgain,
+        /// The last unused block taken, or the one after the last used.
+        LastUnused,
+        AfterLastUsed,
+        /// An unused block answers the zero label at height 0.
+        UnusedAnswers,
+        /// The last block that has both answers.
+        LastAnswers,
+        /// Append stops only at damage before the first unused block.
+        DamageAfterUnused,
+        /// Read refuses wherever there is damage, or tells of none.
+        AnyDamageRead,
+        DamageUntold,
+        /// 33 after 2, 14 after 11, 12 before 11, 34 before 11 and 12.
+        TextAfterArea,
+        LabelAfterHeight,
+        TopBeforeHeight,
+        FullBeforeHeight,
+        /// 11 without the height.
+        HeightUntold,
+        /// Read refuses the zero label.
+        ZeroLabelRead,
+        /// The output's rest cleared.
+        RestCleared,
+    }
 }
-
-pub const STORE_SLIPS: [StoreSlip; 29] = [
-    StoreSlip::NoBlocksRefused,
-    StoreSlip::OneBlockMore,
-    StoreSlip::PartLeftAside,
-    StoreSlip::ZerosUnderCheck,
-    StoreSlip::CheckUnread,
-    StoreSlip::DigestUnread,
-    StoreSlip::ZerosUnread,
-    StoreSlip::ZeroLabelTaken,
-    StoreSlip::HeightZeroTaken,
-    StoreSlip::HeightOverTaken,
-    StoreSlip::EmptyTextDamaged,
-    StoreSlip::TailTested,
-    StoreSlip::LastOfGreatest,
-    StoreSlip::LastOfLabel,
-    StoreSlip::TailBegunAgain,
-    StoreSlip::LastUnused,
-    StoreSlip::AfterLastUsed,
-    StoreSlip::UnusedAnswers,
-    StoreSlip::LastAnswers,
-    StoreSlip::DamageAfterUnused,
-    StoreSlip::AnyDamageRead,
-    StoreSlip::DamageUntold,
-    StoreSlip::TextAfterArea,
-    StoreSlip::LabelAfterHeight,
-    StoreSlip::TopBeforeHeight,
-    StoreSlip::FullBeforeHeight,
-    StoreSlip::HeightUntold,
-    StoreSlip::ZeroLabelRead,
-    StoreSlip::RestCleared,
-];
 
 impl Rules for StoreSlip {
     fn store(&self) -> &dyn StoreRules {

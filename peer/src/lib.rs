@@ -2,14 +2,19 @@
 
 #![deny(unsafe_code)]
 
+#[macro_use]
+mod slips;
+
 pub mod block;
 pub mod broken;
+pub mod broken_companies;
 pub mod broken_many;
 pub mod broken_report;
 pub mod broken_store;
 pub mod bundle;
 pub mod call;
 pub mod calls;
+pub mod companies;
 pub mod desk;
 pub mod header;
 #[cfg(library)]

@@ -45,7 +45,7 @@ pub fn perform_by(rules: &dyn Rules, lent: &mut Lent, call: &Call) -> Reply {
         Call::Initialise { identity, roll, previous, own } => {
             tried(calls::initialise(rules, lent, identity, roll, previous, own))
         }
-        Call::New { label } => tried(calls::new(lent, label)),
+        Call::New { label } => tried(calls::new(rules.companies(), lent, label)),
         Call::Append { label, entry, expected } => tried(calls::append(lent, label, entry, *expected)),
         Call::Read { label, nonce } => tried(calls::read(lent, label, nonce)),
         Call::AppendAndRead { label, entry, expected, nonce } => {

@@ -64,3 +64,5 @@ pub const STORE_FULL: Refusal = 34;
 pub const BLOCK_DAMAGED: Refusal = 35;
 /// M-107: "38 directly after 6 for the own rack in Initialise and for the next rack in Finalise"
 pub const RACK_OF_TWO: Refusal = 38;
+/// M-108: "neither may get more than 31 rows by New"
+pub const COMPANY_FULL: Refusal = 39;

@@ -2,6 +2,7 @@
 
 use crate::bundle::{self, Bundle, Held};
 use crate::calls::{ManyOf02, ManyRules};
+use crate::companies::{CompaniesOf02, CompanyRules};
 use crate::roll::Roll;
 use crate::row::Row;
 use crate::statement::KIND_READ;
@@ -51,6 +52,11 @@ pub trait Rules {
     /// M-100
     fn many(&self) -> &dyn ManyRules {
         &ManyOf02
+    }
+
+    /// M-108
+    fn companies(&self) -> &dyn CompanyRules {
+        &CompaniesOf02
     }
 
     /// M-104

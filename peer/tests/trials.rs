@@ -1,13 +1,14 @@
 //! This file tests that the peer passes every trial, that each broken rule is caught, and that the comparison sees differences.
 
 use peer::broken::{Slip, SLIPS, SLIPS_OF_M_101, SLIPS_OF_M_107};
+use peer::broken_companies::{CompanySlip, COMPANY_SLIPS};
 use peer::broken_many::MANY_SLIPS;
 use peer::broken_store::STORE_SLIPS;
 use peer::party::{Party, Peer};
-use peer::trial::lists::LISTS;
+use peer::trial::lists::{place_of, LISTS};
 use peer::trial::pairing::Pairing;
 use peer::trial::prng::Prng;
-use peer::trial::{history, hostile, layouts, many, missing, numbers, order, readings, records, store};
+use peer::trial::{companies, history, hostile, layouts, many, missing, numbers, order, readings, records, store};
 use std::time::Instant;
 
 fn quiet<'a>(first: &'a dyn Party, second: &'a dyn Party, seed: u64) -> Pairing<'a> {
@@ -185,6 +186,60 @@ fn trials_catch_each_slip_of_append_many() {
     }
 }
 
+#[test]
+fn peer_keeps_two_companies_apart() {
+    let mut prng = Prng::new(30);
+    let mut pairing = quiet(&Peer, &Peer, 30);
+    companies::run(&mut pairing, &mut prng);
+    for _ in 0..1_000 {
+        companies::run_any(&mut pairing, &mut prng);
+    }
+    assert_clean(&pairing);
+    let met = &pairing.tally.by_call[place_of("New")];
+    println!("{} calls, News {met:?}", pairing.tally.calls);
+    assert!([0, 9, 39, 13].iter().all(|number| met.get(number).is_some_and(|times| *times > 500)));
+}
+
+/// Part by part until one of them catches the slip.
+#[test]
+fn trials_catch_each_slip_of_the_companies() {
+    for slip in COMPANY_SLIPS {
+        let mut prng = Prng::new(31);
+        let mut pairing = quiet(&slip, &slip, 31);
+        for part in companies::PARTS {
+            if pairing.tally.faults == 0 {
+                part(&mut pairing, &mut prng);
+            }
+        }
+        println!("{slip:?}: {} faults in {} calls", pairing.tally.faults, pairing.tally.calls);
+        assert!(pairing.tally.faults > 0, "{slip:?} was not caught");
+    }
+}
+
+/// The order of the refusals alone catches those that say it otherwise.
+#[test]
+fn order_catches_each_slip_of_the_companies_order() {
+    use CompanySlip::*;
+    for slip in [LimitBeforeZero, LimitBeforeExists, LimitAfterTable, TableUnsaid] {
+        let mut pairing = quiet(&slip, &slip, 32);
+        order::run(&mut pairing, &mut Prng::new(32));
+        assert!(pairing.tally.faults > 0, "{slip:?} was not caught");
+    }
+}
+
+/// Where a rule lets one company's calls tell on the other's, the two runs themselves differ, whatever else is watched.
+#[test]
+fn pairs_of_runs_catch_what_one_company_tells_the_other() {
+    use CompanySlip::*;
+    for slip in [Unlimited, BothCounted, BothTogether, OtherCounted, OnlyAt31, FirstHeld, SecondHeld, LimitAfterTable] {
+        let mut prng = Prng::new(33);
+        let mut pairing = quiet(&slip, &slip, 33);
+        while companies::two_runs(&mut pairing, &mut prng) == (true, true) && pairing.tally.calls < 100_000 {}
+        println!("{slip:?}: {} calls", pairing.tally.calls);
+        assert!(pairing.tally.calls < 100_000, "{slip:?} was not caught");
+    }
+}
+
 fn slips_of_histories() -> impl Iterator<Item = Slip> {
     SLIPS.into_iter().filter(|slip| slip.shows_in_histories())
 }
@@ -255,6 +310,15 @@ fn comparison_sees_each_slip_of_append_many_as_a_difference() {
     for slip in MANY_SLIPS {
         let mut pairing = quiet(&Peer, &slip, 29);
         many::run(&mut pairing, &mut Prng::new(29));
+        assert!(pairing.tally.differences > 0, "{slip:?} made no difference");
+    }
+}
+
+#[test]
+fn comparison_sees_each_slip_of_the_companies_as_a_difference() {
+    for slip in COMPANY_SLIPS {
+        let mut pairing = quiet(&Peer, &slip, 34);
+        companies::run(&mut pairing, &mut Prng::new(34));
         assert!(pairing.tally.differences > 0, "{slip:?} made no difference");
     }
 }

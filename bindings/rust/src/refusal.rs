@@ -78,6 +78,7 @@ refusals! {
     34 StoreFull "every block of the store is used",
     35 BlockDamaged "no undamaged block answers, and the store holds a damaged one",
     38 RackOfTwo "rack of two",
+    39 CompanyFull "company with 31 rows or more",
 }
 
 impl fmt::Display for Refusal {

@@ -97,11 +97,11 @@ by key b (Bytes-to-check previous own bundle list entry area) =
     }
 
 module _ (key : List ℕ) (b : Box) (call : Call) where
-  same-answer : held-by key b call .answer ≡ outcome-of key (flat b) call .answer
+  pub same-answer : held-by key b call .answer ≡ outcome-of key (flat b) call .answer
   unfolding over-rows
   same-answer = let y = by key b call in ap (λ (h : Held). h .answer) (y .held) ∙ sym (ap (λ (o : Outcome). o .answer) (y .flatly))
 
-  same-area : held-by key b call .area ≡ outcome-of key (flat b) call .left .area
+  pub same-area : held-by key b call .area ≡ outcome-of key (flat b) call .left .area
   unfolding over-rows
   same-area = let y = by key b call in ap (λ (h : Held). h .area) (y .held) ∙ sym (ap (λ (o : Outcome). o .left .area) (y .flatly))
 

@@ -1,4 +1,5 @@
 // New.
+use crate::companies::is_company_full;
 use crate::table::add_row;
 use ledgers::Sought;
 use ledgers::receipt;
@@ -60,6 +61,9 @@ fn refusal_of_new(head: Head, table: &[u8], label: [u8; 16], area: &[u8]) -> Sou
     let Found::Absent(place) = find(table, head.count as usize, label) else {
         return refused(refusals::LEDGER_EXISTS);
     };
+    if is_company_full(table, head.count as usize, label) {
+        return refused(refusals::COMPANY_FULL);
+    }
     if head.count as usize == MOST {
         return refused(refusals::TABLE_FULL);
     }

@@ -38,9 +38,11 @@ use Rattle.rules.specs.Activate.{rack-size, own-roll, bundle-tests, handover-te
 use Rattle.rules.proofs.Somes.{each-all}
 use Rattle.rules.proofs.Derived.{rows-decide, lacked-by-all as lacked}
 use Rattle.rules.proofs.FoundRows.{row-found, row-labelled}
-use Rattle.rules.proofs.Firsts.{sound-rows}
+use Rattle.rules.proofs.Firsts.{Ready as Readied, sound-rows}
+use Rattle.rules.proofs.Refused.{unless-says}
+use Rattle.rules.proofs.Companies.{first-at-127, second-at-128, company-refuses, table-refuses, other-lets-by, only-then}
 use Rattle.desk.proofs.NumbersToTry.{listed-twice, one-signer, two-signers}
-use Rattle.numbers.specs.Cases.{Ready, Stands, Offered, Rest-holds, Numbers-to-try}
+use Rattle.numbers.specs.Cases.{Ready, Stands, Lacks, own-rows, other-rows, Offered, Rest-holds, Numbers-to-try}
 use Rattle.rules.proofs.Prepared.{lent-by, status-refuses, ready-by, comes-to, has-effect}
 
 append-on-blank : (k : Lent) (label entry : List ℕ) (expected : ℕ) → Ready blank receipt-size k → appending k label entry expected ≡ refused 4 0 k
@@ -62,6 +64,29 @@ module _ (k : Lent) (label : List ℕ) (height : ℕ) (a : Stands k label height
       let r = a .ready in
       comes-to _ 9 0 k _
       (ready-by receipt-size k (r .room) (r .sounds) active not-active _ (r .has-status) ∙ rw (named, a .known)) refl
+
+-- a new label: the rows of the companies decide
+module _ (k : Lent) (label : List ℕ) where
+  can : Lacks k label → Readied receipt-size active k
+  can a = record { room = a .ready .room; sounds = a .ready .sounds; acts = a .ready .has-status }
+
+  new-of-full-company : Lacks k label → 31 ≤ own-rows k label → making k label ≡ refused 39 0 k
+  unfolding making
+  new-of-full-company a many = comes-to _ 39 0 k _ (company-refuses k label (can a) (a .labelled) (a .unknown) many) refl
+
+  new-says : making k label .answer .number ≡ new-refusal k label
+  unfolding making
+  new-says = unless-says (new-refusal k label) 0 k _ _ _ _
+
+  new-beside-full-company : Lacks k label → own-rows k label ≤ 30 → other-rows k label ≡ 31 → making k label .answer .number ≡ accepted
+  new-beside-full-company a few theirs = new-says ∙ other-lets-by k label (can a) (a .labelled) (a .unknown) (omega arith) (omega arith)
+
+  new-of-63 : Lacks k label → own-rows k label ≤ 30 → k .head .count ≡ 63 → making k label ≡ refused 13 0 k
+  unfolding making
+  new-of-63 a few full = comes-to _ 13 0 k _ (table-refuses k label (can a) (a .labelled) (a .unknown) (omega arith) full) refl
+
+  only-of-63 : making k label .answer .number ≡ 13 → (k .head .count ≡ 63) × (own-rows k label ≤ 30)
+  only-of-63 e = let t = only-then k label (sym new-says ∙ e) in (t .0, omega (arith, t .1))
 
 module _ (k : Lent) (label entry : List ℕ) where
   -- an append at an active keeper that has the ledger, by the two tests that are left
@@ -260,4 +285,10 @@ tried-all =
       last-reaches-the-top = reaches-the-top;
       own-rack-of-two = own-rack-of-two;
       next-rack-of-two = next-rack-of-two;
+      border = λ label. (first-at-127 label, second-at-128 label);
+      new-of-full-company = new-of-full-company;
+      new-of-full-company-of-63 = λ k label a many full. new-of-full-company k label a many;
+      new-beside-full-company = new-beside-full-company;
+      new-of-63 = new-of-63;
+      only-of-63 = only-of-63;
     }

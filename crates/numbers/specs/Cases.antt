@@ -1,12 +1,13 @@
 -- 01, "Numbers to try": the cases "Marked P: proved for the rules themselves, gathered in a single list under one claim", in the order of 01, and those that
 -- 02 adds.
 use mathlib.Core.Path.{_≡_}
-use mathlib.Core.Bool.{true, false}
+use mathlib.Core.Bool.{true, false, not}
 use mathlib.Core.List.{List, [], _∷_}
 use Prim.Native.Nat.{ℕ, _*_, _<_, _≤_}
-use lib.ListN.{length}
+use lib.ListN.{length, getD}
 use Rattle.refusals.specs.{accepted, signature-not-valid, initialise-not-valid}
 use Rattle.refusals.specs.Order.{first}
+use Rattle.octets.specs.Strings.{all-zero}
 use Rattle.octets.specs.Layouts.{holds}
 use Rattle.rack.specs.Racks.{rack-layout, rack-cut, is-of-two, majority}
 use Rattle.rack.specs.Promise.{reading}
@@ -20,6 +21,7 @@ use Rattle.rules.specs.Record.{blank, active, sound}
 use Rattle.rules.specs.Outcomes.{Lent, refused, given, again}
 use Rattle.rules.specs.Table.{moved}
 use Rattle.rules.specs.Rows.{is-absent, row-number, sought, present-tail, present-height, receipt-of}
+use Rattle.rules.specs.Companies.{company, company-rows}
 use Rattle.rules.specs.Initialise.{is-in-rack, initialising}
 use Rattle.rules.specs.New.{making}
 use Rattle.rules.specs.Append.{appending}
@@ -42,6 +44,19 @@ pub record Stands (k : Lent) (label : List ℕ) (height : ℕ) : Type 0 where
   pub ready : Ready active receipt-size k
   pub known : is-absent (sought k label) ≡ false
   pub height-is : present-height k label ≡ height
+
+-- an active keeper that lacks a ledger of a label that a ledger may have
+pub record Lacks (k : Lent) (label : List ℕ) : Type 0 where
+  pub ready : Ready active receipt-size k
+  pub labelled : all-zero label ≡ false
+  pub unknown : is-absent (sought k label) ≡ true
+
+-- a keeper's rows of the label's company, and of the other
+abbrev pub own-rows : Lent → List ℕ → ℕ
+own-rows k label = company-rows (k .head .count) (k .table) (company label)
+
+abbrev pub other-rows : Lent → List ℕ → ℕ
+other-rows k label = company-rows (k .head .count) (k .table) (not (company label))
 
 -- a question about a rack of three
 pub record Of-three (q : Question) : Type 0 where
@@ -81,7 +96,7 @@ pub record Numbers-to-try : Type 0 where
   pub rack-of-fifteen : (s : List ℕ) → holds rack-layout s ≡ true → rack-cut s .count ≡ 15 → length s ≡ 481
   -- "append on a blank keeper: 4"
   pub append-on-blank : (k : Lent) (label entry : List ℕ) (expected : ℕ) → Ready blank receipt-size k → appending k label entry expected ≡ refused 4 0 k
-  -- "new of an existing label: 9, also with 63 rows"
+  -- "new of an existing label: 9, also with 63 rows"; since M-108 of 02 a keeper has 63 only by an earlier roll
   pub new-of-existing : (k : Lent) (label : List ℕ) (height : ℕ) → Stands k label height → making k label ≡ refused 9 0 k
   pub new-of-existing-of-63 : (k : Lent) (label : List ℕ) (height : ℕ) → Stands k label height → k .head .count ≡ 63 → making k label ≡ refused 9 0 k
   -- "height 0, expected 2: 11 with 0; expected 1: accepted at height 1"
@@ -142,3 +157,15 @@ pub record Numbers-to-try : Type 0 where
       → initialising k identity roll previous own ≡ refused 38 0 k
   pub next-rack-of-two :
       (k : Lent) (next : List ℕ) → Ready active finalise-size k → holds rack-layout next ≡ true → is-of-two next ≡ true → finalising k next ≡ refused 38 0 k
+  -- 02, M-108: "Labels whose first byte is below 128 belong to the first, the others to the second"
+  pub border : (label : List ℕ) → (getD label 0 0 ≡ 127 → company label ≡ true) × (getD label 0 0 ≡ 128 → company label ≡ false)
+  -- "39 in New after 9 and before 13": a company with 31 rows, or by an earlier roll with more, also with 63 rows in the table; the other one beside it,
+  -- also for its last row
+  pub new-of-full-company : (k : Lent) (label : List ℕ) → Lacks k label → 31 ≤ own-rows k label → making k label ≡ refused 39 0 k
+  pub new-of-full-company-of-63 :
+      (k : Lent) (label : List ℕ) → Lacks k label → 31 ≤ own-rows k label → k .head .count ≡ 63 → making k label ≡ refused 39 0 k
+  pub new-beside-full-company :
+      (k : Lent) (label : List ℕ) → Lacks k label → own-rows k label ≤ 30 → other-rows k label ≡ 31 → making k label .answer .number ≡ accepted
+  -- "Only then can 63 rows .. and 13 still be met": where the asking company has at most 30 of them, and nowhere else
+  pub new-of-63 : (k : Lent) (label : List ℕ) → Lacks k label → own-rows k label ≤ 30 → k .head .count ≡ 63 → making k label ≡ refused 13 0 k
+  pub only-of-63 : (k : Lent) (label : List ℕ) → making k label .answer .number ≡ 13 → (k .head .count ≡ 63) × (own-rows k label ≤ 30)

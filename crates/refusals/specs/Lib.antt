@@ -125,3 +125,7 @@ block-damaged = 35
 -- rack of two
 abbrev pub rack-of-two : ℕ
 rack-of-two = 38
+
+-- company with 31 rows or more
+abbrev pub company-full : ℕ
+company-full = 39

@@ -92,3 +92,6 @@ pub const BLOCK_DAMAGED: u32 = 35;
 
 // Rack of two.
 pub const RACK_OF_TWO: u32 = 38;
+
+// Company with 31 rows or more.
+pub const COMPANY_FULL: u32 = 39;

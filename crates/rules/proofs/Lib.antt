@@ -4,6 +4,8 @@ pub mod Firsts
 pub mod Refused
 pub mod FoundRows
 pub mod Initialised
+pub mod Prepared
+pub mod Companies
 pub mod Noted
 pub mod NewPlace
 pub mod Finalised
@@ -14,5 +16,4 @@ pub mod TablesChanged
 pub mod TablesLeft
 pub mod RowsParts
 pub mod RowsMoved
-pub mod Prepared
 pub mod OneByOne

@@ -4,7 +4,7 @@ use mathlib.Core.Bool.{Bool, true, false, not, _&&_}
 use mathlib.Core.List.{List, [], _∷_, _++_}
 use Prim.Native.Nat.{ℕ, _+_, _*_, _%_, _≤_, _<_}
 use native.Mathlib.Omega.{arith}
-use borrow.Author.Tests.{eqb-false, ltb-false, leb-true, not-false}
+use borrow.Author.Tests.{eqb-false, ltb-false, leb-true, leb-false, not-false}
 use lib.ListN.{length}
 use lib.Dec.{eqb, leb, ltb}
 use Rattle.octets.specs.Strings.{all-zero}
@@ -20,14 +20,16 @@ use Rattle.statement.specs.Kinds.{digest-bytes, receipt-size, reading-size}
 use Rattle.rules.specs.Record.{active}
 use Rattle.rules.specs.Outcomes.{Lent, readiness}
 use Rattle.rules.specs.Rows.{is-absent, row-number, sought, present-tail, present-height}
+use Rattle.rules.specs.Companies.{most-of-one}
 use Rattle.rules.proofs.Firsts.{Ready, sound-rows, ready}
-use Rattle.refusals.specs.{accepted, label-zero, ledger-exists, table-full, not-active, list-of-wrong-length, no-such-ledger, out-of-order, height-at-top}
+use Rattle.refusals.specs.{accepted, label-zero, ledger-exists, company-full, table-full, not-active, list-of-wrong-length, no-such-ledger, out-of-order, height-at-top}
 use Rattle.refusals.proofs.Orders.{passes}
 use Rattle.rules.specs.New.{new-refusal}
 use Rattle.rules.specs.Append.{append-refusal}
 use Rattle.rules.specs.AppendMany.{most-entries, entries, is-list, append-many-refusal}
 use Rattle.refusals.specs.Order.{_⇒_, first}
 use Rattle.rules.proofs.FoundRows.{row-found, row-below}
+use Rattle.rules.proofs.Companies.{own}
 
 abbrev pub row-of : Lent → List ℕ → ℕ
 row-of k label = row-number (sought k label)
@@ -65,6 +67,7 @@ pub record Makeable (k : Lent) (label : List ℕ) : Type 0 where
   pub labelled : all-zero label ≡ false
   pub new : sought k label ≡ Absent (row-of k label)
   pub place : row-of k label ≤ k .head .count
+  pub own-few : own k label < most-of-one
   pub few : k .head .count < most-rows
 
 absent-so : (f : Found) → not (is-absent f) ≡ false → f ≡ Absent (row-number f)
@@ -77,7 +80,8 @@ makeable k label e =
     let r = ready receipt-size active not-active k _ (eqb-false 4 0 refl) e in
     let a = passes (all-zero label) label-zero _ (eqb-false 14 0 refl) (r .1) in
     let b = passes (not (is-absent (sought k label))) ledger-exists _ (eqb-false 9 0 refl) (a .1) in
-    let c = passes (eqb (k .head .count) most-rows) table-full _ (eqb-false 13 0 refl) (b .1) in
+    let o = passes (leb most-of-one (own k label)) company-full _ (eqb-false 39 0 refl) (b .1) in
+    let c = passes (eqb (k .head .count) most-rows) table-full _ (eqb-false 13 0 refl) (o .1) in
     let fit : rows-fit (k .head .count) (k .table) ≡ true = sound-rows (k .head) (k .table) (r .0 .sounds) in
     let new : sought k label ≡ Absent (row-of k label) = absent-so (sought k label) (b .0) in
     let full : (k .head .count ≡ most-rows → ⊥) = eqb-false (k .head .count) most-rows (c .0) in
@@ -88,6 +92,7 @@ makeable k label e =
       labelled = a .0;
       new = new;
       place = absent-is (k .head .count) (k .table) label (row-of k label) fit new .0;
+      own-few = leb-false most-of-one (own k label) (o .0);
       few = omega (arith, fit-count (k .head .count) (k .table) fit);
     }
 

@@ -4,6 +4,7 @@ pub mod Record
 pub mod Outcomes
 pub mod Table
 pub mod Rows
+pub mod Companies
 pub mod Wake
 pub mod Initialise
 pub mod New

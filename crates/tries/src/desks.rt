@@ -18,7 +18,7 @@ const APPEND: u8 = 2;
 fn verdict(signers: &[u8]) -> Finding {
     let rack = rack_of_three();
     let mut table = [0u8; TABLE];
-    let head = with_ledgers(founded(&mut table, &rack), &mut table, 1);
+    let head = with_ledgers(founded(&mut table, &rack), &mut table, 0, 1);
     let mut receipt = [0u8; RECEIPT_SIZE];
     let _answer = enter(head, &mut table, 1, &mut receipt);
     judge(head, &rack, &receipt, signers)

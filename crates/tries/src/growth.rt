@@ -1,6 +1,7 @@
 // Making ledgers and appending to them.
 use crate::keepers::enter;
 use crate::keepers::founded;
+use crate::keepers::full;
 use crate::keepers::make;
 use crate::keepers::with_ledgers;
 use crate::keepers::woken;
@@ -12,7 +13,6 @@ use rows::TAIL;
 use rows::TOP;
 use rules::Answer;
 use rules::Head;
-use rules::Told;
 use statement::RECEIPT_SIZE;
 
 // Where the first row has its height.
@@ -31,24 +31,20 @@ pub fn on_blank() {
 }
 
 pub fn made_again() {
-    let one = made_again_among(1);
-    say::answered(b"new of an existing label", one.answer);
-    let all = made_again_among(63);
-    say::text(b"new of an existing label, with ");
-    say::number(all.head.count as u64);
-    say::answered(b" rows", all.answer);
-}
-
-// A second ledger 1, where there are so many.
-fn made_again_among(count: u8) -> Told {
     let mut table = [0u8; TABLE];
-    let head = with_ledgers(founded(&mut table, &rack_of_one(1)), &mut table, count);
-    make(head, &mut table, 1)
+    let one = lent(&mut table, 0);
+    let again = make(one, &mut table, 1);
+    say::answered(b"new of an existing label", again.answer);
+    let all = full(&mut table);
+    let among = make(all, &mut table, 1);
+    say::text(b"new of an existing label, with ");
+    say::number(all.count as u64);
+    say::answered(b" rows", among.answer);
 }
 
 // The keeper of key 1 with ledger 1, which a lent table has at a height.
 fn lent(table: &mut [u8; TABLE], height: u64) -> Head {
-    let head = with_ledgers(founded(table, &rack_of_one(1)), table, 1);
+    let head = with_ledgers(founded(table, &rack_of_one(1)), table, 0, 1);
     octets::put_number(table, HEIGHT_PLACE, height);
     head
 }

@@ -139,7 +139,7 @@ pub fn lacking() {
     let identity = legacy.identity;
     let none = legacy.roll;
     let mut rows = [0u8; TABLE];
-    let keeper = with_ledgers(founded(&mut rows, &rack_of_one(1)), &mut rows, 1);
+    let keeper = with_ledgers(founded(&mut rows, &rack_of_one(1)), &mut rows, 0, 1);
     let roll = rolled(keeper.count, &rows);
     let beside = activated(identity, &roll, &rack_of_three(), &both(&none, &roll));
     say::answered(

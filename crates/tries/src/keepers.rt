@@ -1,6 +1,9 @@
 // Keepers: woken, founded, with ledgers, and appending.
 use crate::people::key;
 use crate::people::label;
+use crate::people::rack_of_one;
+use rows::MOST;
+use rows::ROW;
 use rows::TABLE;
 use rules::Answer;
 use rules::Head;
@@ -54,16 +57,35 @@ pub fn make(head: Head, table: &mut [u8; TABLE], n: u8) -> Told {
     making::new(head, table, label(n), &mut area)
 }
 
-// The keeper once it has made ledgers with the labels 1, 2 and so on.
-pub fn with_ledgers(head: Head, table: &mut [u8; TABLE], count: u8) -> Head {
+// The keeper once it has made ledgers with the labels behind one, up to the last.
+pub fn with_ledgers(head: Head, table: &mut [u8; TABLE], behind: u8, last: u8) -> Head {
     let mut keeper = head;
-    let mut n: u8 = 0;
-    while n < count {
+    let mut n = behind;
+    while n < last {
         n += 1;
         let told = make(keeper, table, n);
         keeper = told.head;
     }
     keeper
+}
+
+// The keeper with a row more behind its others, as only an earlier roll brings one.
+fn brought(head: Head, table: &mut [u8; TABLE], n: u8) -> Head {
+    let mut keeper = head;
+    let count = head.count as usize;
+    if count < MOST {
+        octets::copy_at(table, ROW * count, &label(n));
+        keeper.count = head.count + 1;
+    }
+    keeper
+}
+
+// The keeper of key 1 with 63 rows: 30 of the first company, and of the second 31 and two that an earlier roll brought.
+pub fn full(table: &mut [u8; TABLE]) -> Head {
+    let first = with_ledgers(founded(table, &rack_of_one(1)), table, 0, 30);
+    let both = with_ledgers(first, table, 127, 158);
+    let more = brought(both, table, 159);
+    brought(more, table, 160)
 }
 
 // The keeper appends key 1 to ledger 1, as if it were an entry's digest.

@@ -1,5 +1,6 @@
 // Majorities, the blocks of rolls, and the sizes of racks.
 use crate::keepers::founded;
+use crate::keepers::full;
 use crate::keepers::with_ledgers;
 use crate::people::KEY;
 use crate::people::SIXTEEN;
@@ -32,22 +33,26 @@ fn majority(n: u8) {
 }
 
 pub fn blocks() {
-    blocks_for(0);
-    blocks_for(9);
-    blocks_for(10);
-    blocks_for(63);
+    blocks_of(0);
+    blocks_of(9);
+    blocks_of(10);
+    let mut table = [0u8; TABLE];
+    let head = full(&mut table);
+    blocks_for(head.count, &table);
 }
 
-fn blocks_for(count: u8) {
+// The keeper of key 1 has made so many ledgers.
+fn blocks_of(count: u8) {
     let mut table = [0u8; TABLE];
-    let head = with_ledgers(founded(&mut table, &rack_of_one(1)), &mut table, count);
+    let head = with_ledgers(founded(&mut table, &rack_of_one(1)), &mut table, 0, count);
+    blocks_for(head.count, &table);
+}
+
+fn blocks_for(count: u8, table: &[u8; TABLE]) {
     let mut area = [0u8; ROLL];
     say::text(b"blocks for ");
-    say::number(head.count as u64);
-    say::numbered(
-        b" rows",
-        blocks_written(head.count, &table, &mut area) as u64,
-    );
+    say::number(count as u64);
+    say::numbered(b" rows", blocks_written(count, table, &mut area) as u64);
 }
 
 fn blocks_written(count: u8, table: &[u8; TABLE], area: &mut [u8; ROLL]) -> usize {

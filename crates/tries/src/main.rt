@@ -1,4 +1,5 @@
 // Makes the calls of document 01's "Numbers to try" and of the cases that 02 adds, and says of each what they answered.
+mod companies;
 mod desks;
 mod finals;
 mod growth;
@@ -22,4 +23,6 @@ fn main() {
     handovers::lacking();
     handovers::empty();
     pairs::refused();
+    companies::limits();
+    companies::full_table();
 }

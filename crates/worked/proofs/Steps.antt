@@ -23,6 +23,7 @@ use Rattle.rules.specs.Table.{widened, moved}
 use Rattle.rules.specs.Rows.{is-absent, row-number, receipt-of}
 use Rattle.rules.specs.Wake.{waking}
 use Rattle.rules.specs.Initialise.{absent, is-in-rack, initialise-refusal, initialise-statement, founded as head-founded, preparing, entered, initialising}
+use Rattle.rules.specs.Companies.{company-rows}
 use Rattle.rules.specs.New.{new-refusal, making}
 use Rattle.rules.specs.Append.{append-refusal, moved-on, append-statement, appending}
 use Rattle.rules.specs.Read.{read-kind, reading as reading-rule}
@@ -76,13 +77,14 @@ founds-so who e =
 -- New
 pub makes-so : (who : List ℕ)
     → Gives who (founded who) makes (keeping who young) (statement-written (receipt-of (founded who .head) New ledger no-digest)) (replicate 121 0)
-unfolding outcome-of making new-refusal readiness lending sound all-zero
+unfolding outcome-of making new-refusal readiness lending sound all-zero company-rows
 makes-so who =
     record {
       outcome-is =
           takes-effect _ _ _ _
           (lets-all
-          (also refl (also (ap not empty-fits) (also refl (also refl (also (ap (λ (f : Found). not (is-absent f)) none-found) (also refl end)))))))
+          (also refl (also (ap not empty-fits) (also refl (also refl (also (ap (λ (f : Found). not (is-absent f)) none-found)
+          (also refl (also refl end))))))))
           ∙ (λ i.
           given (statement-written (receipt-of (founded who .head) New ledger no-digest)) (keeping who young .head)
           (widened empty-table (row-number (none-found i)) ledger) (replicate 121 0))

@@ -1,13 +1,15 @@
 //! This program runs the same calls on two parties and compares answer, head, table and output area in full.
 
 use peer::broken::{SLIPS, SLIPS_OF_M_107};
+use peer::broken_companies::COMPANY_SLIPS;
 use peer::broken_many::MANY_SLIPS;
 use peer::broken_store::STORE_SLIPS;
 use peer::party::{Party, Peer};
 use peer::trial::lists::LISTS;
 use peer::trial::pairing::{Numbers, Pairing};
 use peer::trial::prng::Prng;
-use peer::trial::{history, hostile, layouts, many, numbers, order, pages, readings, records, store};
+use peer::trial::{companies, history, hostile, layouts, many, numbers, order, pages, readings, records, store};
+use std::fmt::Debug;
 use std::process::ExitCode;
 use std::time::Instant;
 
@@ -68,23 +70,21 @@ fn party(name: &str) -> Option<Box<dyn Party>> {
         "peer" => Some(Box::new(Peer)),
         #[cfg(library)]
         "library" => Some(Box::new(peer::library::Library)),
-        _ => {
-            let of_many = MANY_SLIPS.into_iter().find(|slip| format!("{slip:?}") == name);
-            if let Some(slip) = of_many {
-                return Some(Box::new(slip));
-            }
-            let of_store = STORE_SLIPS.into_iter().find(|slip| format!("{slip:?}") == name);
-            if let Some(slip) = of_store {
-                return Some(Box::new(slip));
-            }
-            let slip = SLIPS.into_iter().chain(SLIPS_OF_M_107).find(|slip| format!("{slip:?}") == name)?;
-            Some(Box::new(slip))
-        }
+        _ => named(SLIPS.into_iter().chain(SLIPS_OF_M_107), name)
+            .or_else(|| named(MANY_SLIPS, name))
+            .or_else(|| named(STORE_SLIPS, name))
+            .or_else(|| named(COMPANY_SLIPS, name)),
     }
 }
 
+/// The slip of this name, if it is among these.
+fn named<S: Party + Debug + 'static>(slips: impl IntoIterator<Item = S>, name: &str) -> Option<Box<dyn Party>> {
+    let slip = slips.into_iter().find(|slip| format!("{slip:?}") == name)?;
+    Some(Box::new(slip))
+}
+
 fn run_fixed(pairing: &mut Pairing, prng: &mut Prng) {
-    let fixed: [(&str, Trial); 8] = [
+    let fixed: [(&str, Trial); 9] = [
         ("numbers to try", numbers::run),
         ("readings", readings::run),
         ("order of refusals", order::run),
@@ -93,6 +93,7 @@ fn run_fixed(pairing: &mut Pairing, prng: &mut Prng) {
         ("store", store::run),
         ("append many", many::run),
         ("blocks of a night", pages::run),
+        ("two companies", companies::run),
     ];
     for (name, run) in fixed {
         let before = pairing.tally.calls;
@@ -103,7 +104,7 @@ fn run_fixed(pairing: &mut Pairing, prng: &mut Prng) {
 
 /// Goes on until so many calls are made with this seed. A history makes hundreds of calls, so the others get more turns.
 fn run_by_chance(pairing: &mut Pairing, prng: &mut Prng, calls: u64) {
-    let by_chance: [(&str, usize, Trial); 7] = [
+    let by_chance: [(&str, usize, Trial); 8] = [
         ("order", 60, order::run_any),
         ("records", 30, records::run_any),
         ("layouts", 60, layouts::run_any),
@@ -111,8 +112,9 @@ fn run_by_chance(pairing: &mut Pairing, prng: &mut Prng, calls: u64) {
         ("stores", 4, store::run_any),
         ("appends of many", 4, many::run_any),
         ("blocks of nights", 6, pages::run_any),
+        ("pairs of runs", 2, companies::run_any),
     ];
-    let mut made = [0; 7];
+    let mut made = [0; 8];
     while pairing.calls_of_seed() < calls {
         for ((_, turns, run), count) in by_chance.iter().zip(&mut made) {
             let before = pairing.tally.calls;

@@ -22,6 +22,7 @@ pub fn run(pairing: &mut Pairing, prng: &mut Prng) {
     replayed_reading(pairing, prng);
     rack_of_two(pairing, prng);
     heights_between(pairing, prng);
+    crowding(pairing, prng);
 }
 
 const LABEL: [u8; 16] = [1; 16];
@@ -243,4 +244,23 @@ fn heights_between(pairing: &mut Pairing, prng: &mut Prng) {
     judge(&mut world, &last, &[0, 1, 2]);
     let one = accepted(&world) == before + 1;
     world.pairing.ask(one, "the statement of the last height is accepted");
+}
+
+/// M-108: one company asks for far more rows than the keepers have; the other still gets its ledger, and a verdict on it.
+fn crowding(pairing: &mut Pairing, prng: &mut Prng) {
+    let mut world = World::new(pairing, true);
+    founded(&mut world, prng, 3);
+    for keeper in 0..3 {
+        for byte in 2..100 {
+            world.call(keeper, &Call::New { label: [byte; 16] });
+        }
+        let taken = rows_of(&world, keeper).len();
+        world.pairing.ask(taken == 31, "one company gets 31 rows and no more");
+        world.call(keeper, &Call::New { label: [200; 16] });
+    }
+    let Some(statement) = world.receipts.last().cloned() else { return };
+    let before = world.pairing.tally.accepted("Verdict");
+    judge(&mut world, &statement, &[0, 1, 2]);
+    let told = statement[65..81] == [200; 16] && world.pairing.tally.accepted("Verdict") == before + 1;
+    world.pairing.ask(told, "the other company's ledger is accepted");
 }

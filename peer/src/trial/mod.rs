@@ -2,6 +2,7 @@
 
 pub mod bundles;
 pub mod chip;
+pub mod companies;
 pub mod good;
 pub mod history;
 pub mod hostile;

@@ -1,5 +1,6 @@
 //! This file holds the refusals, in 01's order, of all calls but the handover's and the verdict, with the inputs that meet them.
 
+use super::companies;
 use super::good;
 use super::order::{Case, Damages, Plan};
 use super::prng::Prng;
@@ -69,7 +70,7 @@ fn record_plans() -> Vec<Plan> {
         &["6 previous n 0", "6 previous long", "6 previous not rising"],
         &["15 check", "15 short", "15 one byte"],
     ];
-    const NEW: &[&[&str]] = &[AREA, UNSOUND, NOT_ACTIVE, &["14"], &["9"], &["13"]];
+    const NEW: &[&[&str]] = &[AREA, UNSOUND, NOT_ACTIVE, &["14"], &["9"], &["39", "39 brought"], &["13"]];
     const APPEND: &[&[&str]] = &[
         AREA,
         UNSOUND,
@@ -90,7 +91,7 @@ fn record_plans() -> Vec<Plan> {
     const READ: &[&[&str]] = &[AREA, UNSOUND, NOT_ACTIVE, &["10", "10 label zero"]];
     const FINALISE: &[&[&str]] = &[AREA, UNSOUND, &["0 repeat"], &["4 blank", "4 prepared"], RACK_DAMAGES, &["38 two"]];
     // A blank keeper has no ledgers; a label that is zero or absent has no row and no height.
-    const NEW_APART: &[(&str, &str)] = &[("14", "9"), ("4 blank", "9"), ("4 blank", "13")];
+    const NEW_APART: &[(&str, &str)] = &[("14", "9"), ("4 blank", "9"), ("4 blank", "39*"), ("4 blank", "13")];
     const APPEND_APART: &[(&str, &str)] = &[("10*", "11*"), ("10*", "12*"), ("4 blank", "11*"), ("4 blank", "12*")];
     // The argument that must be absent for 8 can't be broken as well.
     const INITIALISE_APART: &[(&str, &str)] = &[("8 roll alone", "6 previous*"), ("8 rack alone", "15*")];
@@ -322,16 +323,36 @@ fn keeper(prng: &mut Prng, damages: &Damages, rows: &[Row], number_above: usize)
 }
 
 fn new(prng: &mut Prng, damages: &Damages) -> Case {
-    let count = if damages.has("13") { 63 } else { 1 + prng.below(62) };
-    let rows = good::rows(prng, count);
-    let mut label = prng.array();
-    if damages.has("9") {
-        label = prng.pick(&rows).label;
-    }
-    if damages.has("14") {
-        label = [0; 16];
-    }
+    // The zero label is the first company's.
+    let of_first = damages.has("14") || prng.chance(1, 2);
+    let (own, other) = counts(prng, damages);
+    let rows = if of_first { companies::rows(prng, own, other) } else { companies::rows(prng, other, own) };
+    let label = match () {
+        _ if damages.has("14") => [0; 16],
+        _ if damages.has("9") => {
+            let there: Vec<Row> =
+                rows.iter().filter(|row| companies::is_of_first(&row.label) == of_first).copied().collect();
+            prng.pick(&there).label
+        }
+        _ => companies::absent_label(prng, &rows, of_first),
+    };
     case(keeper(prng, damages, &rows, 121), Call::New { label })
+}
+
+/// How many rows the asking company has, and how many the other.
+fn counts(prng: &mut Prng, damages: &Damages) -> (usize, usize) {
+    let own = match () {
+        _ if damages.has("39") => 31,
+        _ if damages.has("39 brought") => 32 + prng.below(32),
+        _ => 1 + prng.below(30),
+    };
+    let room = 63 - own;
+    let other = match () {
+        _ if damages.has("13") => room,
+        _ if damages.has("39 brought") => prng.below(room + 1),
+        _ => prng.below(room),
+    };
+    (own, other)
 }
 
 /// Label, expected height, rows and the height that 11 gives, for the appends.

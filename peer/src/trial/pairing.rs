@@ -1,5 +1,6 @@
 //! This file holds the comparison: one call on two parties over copies of the same data, and the tally of all of them.
 
+use super::companies::rows_beside;
 use super::lists::{is_on_record, place, place_of, LISTS};
 use crate::block::BLOCK;
 use crate::call::{Call, Lent, Reply};
@@ -132,6 +133,10 @@ impl<'a> Pairing<'a> {
         }
         if is_on_record(call) && reply.number() == 0 && !is_sound(&after.head, &after.table) {
             self.fault(format!("an accepted call left a record not sound; call {}", brief(call)));
+        }
+        // M-108: "neither may get more than 31 rows by New".
+        if matches!(call, Call::New { label } if reply.number() == 0 && rows_beside(&after.table, label) > 31) {
+            self.fault(format!("a company got more than 31 rows by New; call {}", brief(call)));
         }
     }
 

@@ -1,5 +1,6 @@
 //! This file holds, for each reading of a doubtful sentence of 01 or 02, the input that tells the readings apart, with the answer taken.
 
+use super::companies;
 use super::good;
 use super::missing::{self, Carried};
 use super::pairing::Pairing;
@@ -31,6 +32,7 @@ pub fn run(pairing: &mut Pairing, prng: &mut Prng) {
     rack_sizes(pairing, prng);
     racks_of_two(pairing, prng);
     two_stay_valid(pairing, prng);
+    two_companies(pairing, prng);
 }
 
 fn row(prng: &mut Prng, height: u64) -> Row {
@@ -422,4 +424,25 @@ fn two_stay_valid(pairing: &mut Pairing, prng: &mut Prng) {
     let (statement, signers) = (statement::bytes(&stated), vec![0, 3, 1, 3]);
     let ask = AskVerdict { identity, rack: two, kind: KIND_APPEND, label, nonce: [0; 16], statement, signers };
     pairing.expect("J2", &mut good::only_area(0), &Call::Verdict(ask), 0);
+}
+
+/// K1 to K3: a label's first byte, the rows of the first and the second company, however they came, and the answer.
+fn two_companies(pairing: &mut Pairing, prng: &mut Prng) {
+    let cases: [(&str, u8, usize, usize, Refusal); 10] = [
+        ("K1", 0, 31, 0, 39),
+        ("K1", 0, 40, 0, 39),
+        ("K1", 0, 30, 32, 0),
+        ("K2", 0, 31, 32, 39),
+        ("K2", 0, 30, 33, 13),
+        ("K2", 255, 63, 0, 13),
+        ("K3", 127, 31, 0, 39),
+        ("K3", 128, 31, 0, 0),
+        ("K3", 127, 0, 31, 0),
+        ("K3", 128, 0, 31, 39),
+    ];
+    for (name, byte, first, second, number) in cases {
+        let rows = companies::rows(prng, first, second);
+        let label = companies::label_at(prng, byte);
+        pairing.expect(name, &mut good::lent(prng, ACTIVE, &rows, 121), &Call::New { label }, number);
+    }
 }

@@ -5,10 +5,10 @@ use Rattle.tries.proofs.keepers.with_ledgers.Statement.{statement}
 use Rattle.tries.proofs.keepers.with_ledgers.Tie as tie
 
 abbrev Inv-loop : tie.InvT-loop
-Inv-loop table₀ count keeper₀ n₀ table keeper n = Unit {0}
+Inv-loop table₀ behind last keeper₀ n₀ table keeper n = Unit {0}
 
 abbrev μ-loop : tie.MeasureT-loop
-μ-loop table₀ count keeper₀ n₀ table keeper n = count - n
+μ-loop table₀ behind last keeper₀ n₀ table keeper n = last - n
 
 loop-holds : tie.Need-loop-holds Inv-loop μ-loop
 loop-holds c = search needs
