@@ -1,7 +1,4 @@
 -- Laws of the calls on a record that the caller lends.
 pub mod OtherTables
 pub mod MovedRows
-pub mod ThinCalls
-pub mod ManyCalls
-pub mod ReadCalls
 pub mod Outcomes

@@ -1,6 +1,4 @@
 -- Laws of the calls by which one rack follows another.
 pub mod OtherTables
 pub mod Repeats
-pub mod Initialised
-pub mod Checked
 pub mod Outcomes

@@ -13,9 +13,4 @@ pub mod LeftHeld
 pub mod RowsLent
 pub mod OtherLent
 pub mod Heard
-pub mod Locals
-pub mod Changing
-pub mod Looking
-pub mod Turning
-pub mod Activating
 pub mod Outcomes

@@ -1,21 +1,14 @@
 -- `keeper::thin::mahqurith_new` meets its contract, by the law of such calls. Assumes nothing.
+use mathlib.Core.List.{List, [], _∷_}
+use contract.Running.{tables}
+use denote.Triple.Spec.{tripleOf}
+use denote.Triple.Table.{entered}
 use Rattle.statement.specs.Kinds.{receipt-size}
 use Rattle.rules.specs.New.{making}
-use contract.Running.{givenOf, tables, tablesOf}
-use denote.Triple.Spec.{tripleOf}
-use denote.Triple.Table.{entered, cited}
+use Rattle.rules.specs.Outcomes.{Lent, Outcome}
+use Rattle.walks.proofs.Further.{Further, Dens, asked-by-value}
+use Rattle.walks.proofs.ChangingCalls.{changing-meets}
 use Rattle.keeper.proofs.OtherTables.{making-other}
-use Rattle.table.proofs.RowsLent.{In, Out, HeadOut}
-use Rattle.table.proofs.OtherLent.{Other}
-use Rattle.keeper.proofs.ThinCalls.{Rule, Core, thin-meets}
-use Rattle.table.proofs.flat_in.Symbol as flat-in
-use Rattle.table.proofs.flat_in.Met as flat-in-thm
-use Rattle.table.proofs.rows_out.Symbol as rows-out
-use Rattle.table.proofs.rows_out.Met as rows-out-thm
-use Rattle.table.proofs.head_out.Symbol as head-out
-use Rattle.table.proofs.head_out.Met as head-out-thm
-use Rattle.table.proofs.other_length.Symbol as others
-use Rattle.table.proofs.other_length.Met as others-thm
 use Rattle.keeper.proofs.ledger.new_left.Symbol as left
 use Rattle.keeper.proofs.ledger.new_left.Met as left-thm
 use Rattle.keeper.proofs.thin.mahqurith_new.Key.{name}
@@ -23,17 +16,17 @@ use Rattle.keeper.proofs.thin.mahqurith_new as thin
 use Rattle.keeper.proofs.thin.mahqurith_new.Statement as stated
 use Rattle.keeper.proofs.thin.mahqurith_new.Code as code
 
-abbrev rule : Rule
-rule = λ k a. making k (a .label)
+abbrev further : List (Further 1)
+further = asked-by-value ∷ []
+
+abbrev rule : Lent → Dens further → Outcome
+rule = λ k x. making k (x .0 .label)
 
 pub mahqurith-new-spec : {M : Type 1} → stated.statement M
-unfolding code.routine tablesOf
+unfolding code.routine
 mahqurith-new-spec 𝓤 H 𝓜 𝓖 𝓡 =
     entered 𝓤 H (tripleOf 𝓤 H (𝓖 .A) thin.signature (thin.spec 𝓤 H (𝓖 .A) (𝓜 .mem) (𝓡 .run)))
     (tables 𝓤 H 𝓜 𝓡 code.env .C) (tables 𝓤 H 𝓜 𝓡 code.env .Λ) name code.function (code.unfolded 𝓤 H 𝓜 𝓡)
-    (thin-meets rule receipt-size tt making-other left.name 𝓤 H (𝓖 .A) (givenOf 𝓤 H 𝓜 𝓖) (𝓜 .mem) (𝓡 .run) (tablesOf 𝓤 H 𝓜 (tables 𝓤 H 𝓜 𝓡 code.env))
-    (cited 𝓤 H (In 𝓤 H (𝓖 .A) (𝓜 .mem) (𝓡 .run)) 𝓜 𝓡 code.env flat-in.name flat-in.routine code.calls-table·flat-in (flat-in-thm.met 𝓤 H 𝓜 𝓖 𝓡))
-    (cited 𝓤 H (Other 𝓤 H (𝓖 .A) (𝓜 .mem) (𝓡 .run)) 𝓜 𝓡 code.env others.name others.routine code.calls-table·other-length (others-thm.met 𝓤 H 𝓜 𝓖 𝓡))
-    (cited 𝓤 H (HeadOut 𝓤 H (𝓖 .A) (𝓜 .mem) (𝓡 .run)) 𝓜 𝓡 code.env head-out.name head-out.routine code.calls-table·head-out (head-out-thm.met 𝓤 H 𝓜 𝓖 𝓡))
-    (cited 𝓤 H (Out 𝓤 H (𝓖 .A) (𝓜 .mem) (𝓡 .run)) 𝓜 𝓡 code.env rows-out.name rows-out.routine code.calls-table·rows-out (rows-out-thm.met 𝓤 H 𝓜 𝓖 𝓡))
-    (cited 𝓤 H (Core 𝓤 H (𝓖 .A) rule) 𝓜 𝓡 code.env left.name left.routine code.calls-keeper·ledger·new-left (left-thm.met 𝓤 H 𝓜 𝓖 𝓡)))
+    (changing-meets further 0 tt rule receipt-size tt (λ x h ys. making-other h ys (x .0)) left.name 𝓤 H 𝓜 𝓖 𝓡 code.env
+    code.calls-table·flat-in code.calls-table·other-length code.calls-table·head-out code.calls-table·rows-out
+    left.routine code.calls-keeper·ledger·new-left (left-thm.met 𝓤 H 𝓜 𝓖 𝓡))

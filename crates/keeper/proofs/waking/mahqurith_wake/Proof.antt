@@ -71,7 +71,7 @@ use Rattle.table.proofs.RowsLent.{answer-typed}
 use Rattle.table.proofs.RowsLent.{Clear, HeadOut, rows-at, rows-sl, to-clear, goes-clear, to-head, goes-head}
 use Rattle.table.proofs.OtherLent.{Other, to-other, goes-other, other-of}
 use Rattle.table.proofs.Heard.{IsUnit, clear-leaves, head-leaves}
-use Rattle.table.proofs.Locals.{frees-all, weave}
+use Rattle.walks.proofs.Locals.{frees-all, weave}
 use Rattle.table.proofs.other_length as others
 use Rattle.table.proofs.other_length.Symbol as others-def
 use Rattle.table.proofs.other_length.Symbol.{name as #other}
