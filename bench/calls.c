@@ -10,7 +10,7 @@
 #include <string.h>
 #include <time.h>
 
-enum { ROUNDS = 500, STACK = 1 << 20, PAINT = 0xa5, CHUNK = 508, TWENTY = 20 };
+enum { ROUNDS = 500, STACK = 1 << 20, PAINT = 0xa5, CHUNK = 508 };
 
 static int ledgers;
 static uint8_t shelf_before[MAHQURITH_STORE], shelf[MAHQURITH_STORE];
@@ -84,6 +84,8 @@ static void activate(void)
                               MAHQURITH_RACK, handover.bundle, handover.length));
 }
 
+static void make(void) { number = make_bundle(&handover); }
+
 static void bytes_to_check(void)
 {
     settle(mahqurith_bytes_to_check(&box.head, box.rows, MAHQURITH_ROWS, last(), handover.previous.bytes, MAHQURITH_RACK,
@@ -151,18 +153,23 @@ static void hash_finalise(void)
     hash_blocks();
 }
 
+static void hash_rolls(void)
+{
+    for (int i = 0; i < BOXES; i++)
+        hash_blocks();
+}
+
 static void hash_old_rolls(void)
 {
     hash_rack();
     hash_rack();
-    for (int i = 0; i < BOXES; i++)
-        hash_blocks();
+    hash_rolls();
 }
 
 static void hash_activate(void)
 {
     hash_old_rolls();
-    for (int i = 0; ledgers > 0 && i < (BOXES - 1) * LAGGED; i++)
+    for (int i = 0; i < handover.added; i++)
         hash_entry();
 }
 
@@ -179,6 +186,17 @@ static void hash_stored(void)
     hash(MAHQURITH_TEXT);
 }
 
+/* The old rolls' blocks and the new one's; each entry that a box is behind once, as the store has it, and in the tail. */
+static void hash_make(void)
+{
+    hash_rolls();
+    hash_blocks();
+    for (int i = 0; i < handover.added; i++) {
+        hash_stored();
+        hash_entry();
+    }
+}
+
 static void hash_store_append(void)
 {
     for (int i = 0; i < ledgers + 1; i++)
@@ -192,7 +210,8 @@ static void hash_store_read(void)
         hash_stored();
 }
 
-enum state { BLANK, ACTIVE, PREPARED, STORE };
+/* Of the prepared boxes: with the largest bundle; with one whose 20 entries one old box is behind, or fourteen. */
+enum state { BLANK, ACTIVE, PREPARED, ONE_BEHIND, ALL_BEHIND, STORE };
 
 static const struct trial {
     const char *name;
@@ -212,6 +231,10 @@ static const struct trial {
     {"finalise", ACTIVE, finalise, hash_finalise},
     {"activate", PREPARED, activate, hash_activate},
     {"bytes-to-check", PREPARED, bytes_to_check, hash_check},
+    {"make-bundle", ONE_BEHIND, make, hash_make},
+    {"activate-made", ONE_BEHIND, activate, hash_activate},
+    {"make-bundle-14", ALL_BEHIND, make, hash_make},
+    {"activate-made-14", ALL_BEHIND, activate, hash_activate},
     {"verdict", ACTIVE, verdict, hash_rack},
     {"store-append", STORE, store_append, hash_store_append},
     {"store-read", STORE, store_read, hash_store_read},
@@ -267,8 +290,9 @@ static void set_scene(const struct trial *trial)
     }
     first = rack_of(1);
     second = rack_of(2);
-    make_handover(&handover, ledgers);
-    if (trial->state == PREPARED)
+    bool twenty = trial->state == ONE_BEHIND || trial->state == ALL_BEHIND;
+    make_handover(&handover, ledgers, twenty ? TWENTY : LAGGED, trial->state == ONE_BEHIND ? 1 : BOXES - 1);
+    if (trial->state == PREPARED || twenty)
         before = handover.box;
     else
         before = active_box(&first, 0, ledgers);

@@ -5,13 +5,15 @@
 #include <stdlib.h>
 #include <string.h>
 
-static void must(mahqurith_answer answer, const char *what)
+static void must_be(uint32_t number, const char *what)
 {
-    if (answer.number == MAHQURITH_ACCEPTED)
+    if (number == MAHQURITH_ACCEPTED)
         return;
-    fprintf(stderr, "bench: %s was refused with %u\n", what, (unsigned)answer.number);
+    fprintf(stderr, "bench: %s was refused with %u\n", what, (unsigned)number);
     exit(1);
 }
+
+static void must(mahqurith_answer answer, const char *what) { must_be(answer.number, what); }
 
 struct rack rack_of(uint8_t name)
 {
@@ -70,20 +72,31 @@ struct last_words finalised(struct box *box, const struct rack *next)
     return words;
 }
 
-static void append_all(struct box *box, int times)
+/* Texts of the greatest length. */
+static void fill_store(struct handover *handover, int entries)
+{
+    static const uint8_t text[MAHQURITH_TEXT];
+    mahqurith_place place = {.height = 1};
+    memcpy(place.label, about(0).label, MAHQURITH_LABEL);
+    for (; place.height <= (uint64_t)entries; place.height++)
+        must_be(mahqurith_store_append(handover->store, sizeof handover->store, place, text, sizeof text).number, "a text");
+}
+
+static void append_all(struct box *box, const uint8_t *store, int entries)
 {
     uint8_t area[MAHQURITH_RECEIPT];
-    for (int k = 1; k <= times; k++) {
+    for (int i = 0; i < entries; i++) {
         mahqurith_asked asked = about(0);
-        asked.expected = (uint64_t)k;
+        asked.expected = (uint64_t)i + 1;
+        memcpy(asked.entry, store + i * MAHQURITH_BLOCK + MAHQURITH_STORED_DIGEST, MAHQURITH_DIGEST);
         must(mahqurith_append(&box->head, box->rows, MAHQURITH_ROWS, asked, area, sizeof area), "append");
     }
 }
 
 static void put(struct handover *handover, const void *bytes, size_t length)
 {
-    memcpy(handover->bundle + handover->length, bytes, length);
-    handover->length += length;
+    memcpy(handover->entries + handover->entries_length, bytes, length);
+    handover->entries_length += length;
 }
 
 static void put_byte(struct handover *handover, size_t byte)
@@ -92,24 +105,18 @@ static void put_byte(struct handover *handover, size_t byte)
     put(handover, &one, 1);
 }
 
-/* The first box has all entries; its roll is the one that is handed on. */
-static void put_old_entries(struct handover *handover, int ledgers)
+static void put_old_entries(struct handover *handover, int ledgers, int entries, int behind)
 {
     put_byte(handover, BOXES);
     for (int i = 0; i < BOXES; i++) {
         struct box box = active_box(&handover->previous, i, ledgers);
-        append_all(&box, ledgers > 0 && i == 0 ? LAGGED : 0);
+        append_all(&box, handover->store, ledgers > 0 && i < BOXES - behind ? entries : 0);
         struct last_words words = finalised(&box, &handover->own);
-        const uint8_t *roll = words.bytes + MAHQURITH_HANDOVER;
         size_t length = words.length - MAHQURITH_HANDOVER;
         put_byte(handover, (size_t)i);
         put_byte(handover, MAHQURITH_ATTESTED | MAHQURITH_VALID);
         put_byte(handover, length / MAHQURITH_BLOCK);
-        put(handover, roll, length);
-        if (i == 0) {
-            memcpy(handover->roll, roll, length);
-            handover->roll_length = length;
-        }
+        put(handover, words.bytes + MAHQURITH_HANDOVER, length);
     }
 }
 
@@ -122,27 +129,26 @@ static void put_new_entries(struct handover *handover)
     }
 }
 
-/* An entry's digest is all zero, as `about` asks. */
-static void put_lists(struct handover *handover, int ledgers)
+uint32_t make_bundle(struct handover *handover)
 {
-    static const uint8_t entries[LAGGED * MAHQURITH_DIGEST];
-    for (int i = 0; i < BOXES; i++)
-        for (int r = 0; r < ledgers; r++) {
-            int count = i > 0 && r == 0 ? LAGGED : 0;
-            put_byte(handover, 0);
-            put_byte(handover, (size_t)count);
-            put(handover, entries, (size_t)count * MAHQURITH_DIGEST);
-        }
+    mahqurith_made made = mahqurith_make_bundle(handover->previous.bytes, MAHQURITH_RACK, handover->own.bytes, MAHQURITH_RACK, handover->entries,
+                                                handover->entries_length, handover->store, sizeof handover->store, handover->roll,
+                                                sizeof handover->roll, handover->bundle, sizeof handover->bundle);
+    handover->roll_length = made.roll;
+    handover->length = made.bundle;
+    return made.number;
 }
 
-void make_handover(struct handover *handover, int ledgers)
+void make_handover(struct handover *handover, int ledgers, int entries, int behind)
 {
     memset(handover, 0, sizeof *handover);
     handover->previous = rack_of(1);
     handover->own = rack_of(2);
-    put_old_entries(handover, ledgers);
+    handover->added = ledgers > 0 ? entries * behind : 0;
+    fill_store(handover, entries);
+    put_old_entries(handover, ledgers, entries, behind);
     put_new_entries(handover);
-    put_lists(handover, ledgers);
+    must_be(make_bundle(handover), "the bundle");
     handover->box = woken(key_of(&handover->own, 0));
     uint8_t area[MAHQURITH_HANDOVER];
     must(mahqurith_initialise(&handover->box.head, handover->box.rows, MAHQURITH_ROWS, about(0), handover->roll,

@@ -4,7 +4,7 @@
 
 #include "mahqurith.h"
 
-enum { BOXES = 15, LAGGED = 21 };
+enum { BOXES = 15, LAGGED = 21, TWENTY = 20 };
 
 struct box {
     mahqurith_head head;
@@ -33,16 +33,19 @@ struct last_words {
 
 struct last_words finalised(struct box *box, const struct rack *next);
 
-/* A prepared box and its largest bundle: fifteen old rolls of so many ledgers each, all but the first LAGGED entries behind on one ledger. */
+/* A prepared box, what its roll and bundle are made of, and both of them. */
 struct handover {
     struct rack previous, own;
     struct box box;
-    uint8_t bundle[MAHQURITH_BUNDLE];
-    size_t length;
-    uint8_t roll[MAHQURITH_ROLL];
-    size_t roll_length;
+    uint8_t entries[MAHQURITH_BUNDLE], store[LAGGED * MAHQURITH_BLOCK], roll[MAHQURITH_ROLL], bundle[MAHQURITH_BUNDLE];
+    size_t entries_length, roll_length, length;
+    int added; /* digests in the lists */
 };
 
-void make_handover(struct handover *handover, int ledgers);
+/* Fifteen old rolls of so many ledgers each. Their first ledger has a number of entries, at most LAGGED, that the last boxes, so many, are behind. */
+void make_handover(struct handover *handover, int ledgers, int entries, int behind);
+
+/* Roll and bundle, into their areas; the answer's number. */
+uint32_t make_bundle(struct handover *handover);
 
 #endif

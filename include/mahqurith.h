@@ -1,13 +1,13 @@
 /*
- * Mahqurith: the keeper's calls, the desk's verdict, the messenger's store, the layouts and the hash, for C11 and C++17 on
- * x86-64. The archive has code for x86-64 and for no other processor.
+ * Mahqurith: the keeper's calls, the desk's verdict, the messenger's store and its maker of bundles, the layouts and the hash,
+ * for C11 and C++17 on x86-64. The archive has code for x86-64 and for no other processor.
  *
  * Every function accepts any values and any bytes, keeps nothing between calls, allocates nothing and ends. Faulty input
- * is refused with one of the numbers below. A refusal changes no byte of head, rows, area, output or bundle.
+ * is refused with one of the numbers below. A refusal changes no byte of head, rows, area, output, roll or bundle.
  *
  * Arguments come in one order: the keeper's record (head, rows and how many rows), the store's area or the bundle that is
  * marked (a pointer and a length), what is asked at fixed sizes, the messages (each a pointer and a length), the output area
- * (a pointer and a length).
+ * (a pointer and a length; of the maker two of them, the roll's and the bundle's).
  *
  * An accepted call answers 0 and how many bytes it wrote: the first of the area. The rest of the area stays.
  *
@@ -18,8 +18,8 @@
  * - The memory is there, for as many bytes or rows as the length says; what is not const here can be written. A call
  *   that leaves the head writes no byte of it, and one that leaves the rows, or that refuses, writes none of these.
  * - Rows are aligned as C aligns a mahqurith_row: to eight bytes.
- * - What is written overlaps nothing: head, rows, area, output and digest neither one another nor a message, tail not entry.
- *   Messages may overlap each other.
+ * - What is written overlaps nothing: head, rows, area, output, the maker's roll and bundle, and digest neither one another nor
+ *   a message, tail not entry. Messages may overlap each other.
  * - One call at a time on a record or a store: while a call runs, no other call and nothing else reads or writes its head, rows or
  *   area or writes its messages, in whatever thread. Calls on different records may run side by side, and so may calls
  *   that take head and rows const on one record.
@@ -46,7 +46,7 @@ extern "C" {
  * are not to be mixed.
  */
 #define MAHQURITH_VERSION_MAJOR 1
-#define MAHQURITH_VERSION_MINOR 7
+#define MAHQURITH_VERSION_MINOR 8
 
 /*
  * Answers: 0, or the refusal's number; mahqurith_meaning says what each means. Tests are made in the order that each call
@@ -83,6 +83,8 @@ enum {
     MAHQURITH_TEXT_TOO_LONG = 33,
     MAHQURITH_STORE_FULL = 34,
     MAHQURITH_BLOCK_DAMAGED = 35,
+    MAHQURITH_NOT_LEADING = 36,
+    MAHQURITH_BUNDLE_TOO_LARGE = 37,
     MAHQURITH_RACK_OF_TWO = 38,
     MAHQURITH_COMPANY_FULL = 39
 };
@@ -122,6 +124,9 @@ static inline const char *mahqurith_meaning(uint32_t number)
     case MAHQURITH_TEXT_TOO_LONG: return "text over 418 bytes";
     case MAHQURITH_STORE_FULL: return "every block of the store is used";
     case MAHQURITH_BLOCK_DAMAGED: return "no undamaged block answers, and the store holds a damaged one";
+    case MAHQURITH_NOT_LEADING:
+        return "the store's read refuses a needed entry, two highest rows differ, or the digests do not lead to the highest tail";
+    case MAHQURITH_BUNDLE_TOO_LARGE: return "the roll passes 63 rows, a count 64 or the bundle its length";
     case MAHQURITH_RACK_OF_TWO: return "rack of two";
     case MAHQURITH_COMPANY_FULL: return "company with 31 rows or more";
     default: return "no answer of this library";
@@ -435,6 +440,27 @@ mahqurith_stored mahqurith_store_append(uint8_t *area, size_t area_length, mahqu
  */
 mahqurith_stored mahqurith_store_read(const uint8_t *area, size_t area_length, mahqurith_place asked, uint8_t *output,
                                       size_t output_length);
+
+/* What the maker of a handover's bundle answers. */
+typedef struct {
+    uint32_t number;  /* 0 or a refusal */
+    size_t roll;      /* bytes written to the roll's area, at most MAHQURITH_ROLL */
+    size_t bundle;    /* bytes written to the bundle's area, at most MAHQURITH_BUNDLE */
+} mahqurith_made;
+
+/*
+ * Makes the roll that new boxes are initialised with, and the bundle that activates them. The entries are the part of a bundle
+ * before its lists: the old entries with their marks and rolls, and the new ones with their marks; nothing after. The roll is,
+ * label by label, the highest old row. The bundle is the entries and the lists: the digests that the store's read answers, above
+ * each old row and up to the highest. Activate accepts it at any box that is prepared with these racks and that roll, and a
+ * refusal by another number than 1 or 2 says that no bundle of these entries and such digests would be accepted. It checks no
+ * signature: the marks are what the caller says. Refuses: 2 for the store's size alone, 6 (previous, then own), 22, 15, 16, then
+ * for each old entry 17, 18, for each new entry 17, 19, then 36, 37, 1 where either area is too short. Both areas stay then.
+ */
+mahqurith_made mahqurith_make_bundle(const uint8_t *previous, size_t previous_length, const uint8_t *own, size_t own_length,
+                                     const uint8_t *entries, size_t entries_length, const uint8_t *store,
+                                     size_t store_length, uint8_t *roll, size_t roll_length, uint8_t *bundle,
+                                     size_t bundle_length);
 
 /*
  * The morning report's file: blocks of MAHQURITH_BLOCK bytes, one behind the other, which the program report reads. A desk

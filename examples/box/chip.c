@@ -104,6 +104,12 @@ bool chip_attested(const uint8_t root[MAHQURITH_KEY], const uint8_t key[MAHQURIT
     return chip_valid(root, key, MAHQURITH_KEY, evidence);
 }
 
+uint8_t chip_marks(const uint8_t root[MAHQURITH_KEY], const uint8_t key[MAHQURITH_KEY], const uint8_t evidence[EVIDENCE], const uint8_t *bytes,
+                   size_t length, const uint8_t signature[SIGNATURE]) {
+    uint8_t attested = chip_attested(root, key, evidence) ? MAHQURITH_ATTESTED : 0;
+    return attested | (chip_valid(key, bytes, length, signature) ? MAHQURITH_VALID : 0);
+}
+
 bool maker_root(const uint8_t secret[MAHQURITH_KEY], uint8_t root[MAHQURITH_KEY]) {
     size_t length = MAHQURITH_KEY;
     EVP_PKEY *key = EVP_PKEY_new_raw_private_key(EVP_PKEY_ED25519, NULL, secret, MAHQURITH_KEY);

@@ -25,9 +25,7 @@ static uint8_t marks_of(const desk *d, const list *rack, const voice *v, const r
     mahqurith_rack named = mahqurith_read_rack(BYTES(*rack)).rack;
     if (v->position >= named.count || v->position >= BOXES)
         return 0;
-    const uint8_t *key = named.keys[v->position];
-    uint8_t attested = chip_attested(d->root, key, rack->evidence[v->position]) ? MAHQURITH_ATTESTED : 0;
-    return attested | (chip_valid(key, said->bytes, said->length, v->reply.signatures[0]) ? MAHQURITH_VALID : 0);
+    return chip_marks(d->root, named.keys[v->position], rack->evidence[v->position], said->bytes, said->length, v->reply.signatures[0]);
 }
 
 /* THE NIGHT'S FILE, for the report in the morning */
@@ -61,7 +59,7 @@ mahqurith_finding desk_judge(desk *d, const list *rack, const pile *p) {
     size_t length = 0;
     for (size_t i = 0; i < p->count; i++) {
         uint8_t marks = marks_of(d, rack, &p->voices[i], said);
-        if (marks != (MAHQURITH_ATTESTED | MAHQURITH_VALID))
+        if (marks != GOOD)
             continue;
         signers[length++] = p->voices[i].position;
         signers[length++] = marks;

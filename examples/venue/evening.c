@@ -164,9 +164,10 @@ static void interval(void) {
     pile first = ask(B);
     mahqurith_finding found = desk_judge(&console, &lists[B], &first);
     must(desk_takes(&console, &lists[B], &found), "the desk takes the new rack");
-    puts("Boxes B1 to B5 take the newest list over and sign that they did, but do not use it yet.\n"
-         "The messenger brings each of them a bundle: the signatures of both racks, the cue that box A5 missed,\n"
-         "and all four cues for box A4, whose list lacks the ledger. Other lists have it, so that it stops nothing.\n"
+    puts("The messenger has the library make the newest list. In the store it finds the cue that box A5 missed, and all four cues for\n"
+         "box A4, whose list lacks the ledger. Other lists have it, so that it stops nothing.\n"
+         "Boxes B1 to B5 take the newest list over and sign that they did, but do not use it yet.\n"
+         "The library makes the bundle, and the messenger brings it to each of them with the signatures of both racks.\n"
          "Boxes B1 to B4 have their own chips check it and find all of it good: they are active.\n"
          "Box B5 has a loose cable and waits for its bundle.");
 }

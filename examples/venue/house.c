@@ -61,7 +61,7 @@ void turn(int box, int person) { write_file(file_of(box, "switch"), (char[]){(ch
 
 bool has_key(int box, int slot) { return access(file_of(box, slot == 0 ? "key0" : "key1"), F_OK) == 0; }
 
-/* The maker puts its secret into each chip, and a person the maker's root into each box and the desk. */
+/* The maker puts its secret into each chip, and a person the maker's root into each box, the desk and the messenger. */
 void house_opens(const char *box, const char *messenger, const char *folder, uint8_t root[MAHQURITH_KEY]) {
     const uint8_t maker[MAHQURITH_KEY] = "a maker's secret, for this show";
     box_program = box;
@@ -72,6 +72,7 @@ void house_opens(const char *box, const char *messenger, const char *folder, uin
         write_file(file_of(i, "root"), root, MAHQURITH_KEY);
         plug(i);
     }
+    write_file("root", root, MAHQURITH_KEY);
     start(messenger, ".");
     close(reached("messenger"));
 }

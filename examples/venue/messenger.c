@@ -8,7 +8,7 @@
 
 static struct { list list; uint8_t member_at[BOXES]; } racks[RACKS];
 static pile finals, initials;
-static uint8_t store[32 * MAHQURITH_BLOCK];
+static uint8_t store[32 * MAHQURITH_BLOCK], root[MAHQURITH_KEY];
 
 void must(bool holds, const char *what) {
     if (holds)
@@ -86,13 +86,10 @@ static void keep(const request *q) {
     must(file >= 0 && pwrite(file, store, sizeof store, 0) == sizeof store && fsync(file) == 0 && close(file) == 0, "the store is on the medium");
 }
 
-static bool looked(const uint8_t label[MAHQURITH_LABEL], uint64_t height, uint8_t block[MAHQURITH_BLOCK]) {
-    return mahqurith_store_read(store, sizeof store, place_of(label, height), block, MAHQURITH_BLOCK).number == MAHQURITH_ACCEPTED;
-}
-
 static pile look(const request *q) {
     pile p = {.voices[0].reply.length = MAHQURITH_BLOCK};
-    p.count = looked(q->asked.label, q->asked.expected, p.voices[0].reply.bytes);
+    mahqurith_place place = place_of(q->asked.label, q->asked.expected);
+    p.count = mahqurith_store_read(store, sizeof store, place, p.voices[0].reply.bytes, MAHQURITH_BLOCK).number == MAHQURITH_ACCEPTED;
     return p;
 }
 
@@ -100,27 +97,17 @@ static pile look(const request *q) {
 
 static span roll_of(voice *v) { return (span){v->reply.length - MAHQURITH_HANDOVER, v->reply.bytes + MAHQURITH_HANDOVER}; }
 
-/* The height of the venue's one ledger in a roll; 0 where the roll lacks it. */
-static uint64_t height_of(voice *v) { return mahqurith_read_roll(BYTES(roll_of(v))).roll.rows[0].height; }
-
-/* Of those that the boxes left, the one with the highest roll. */
-static voice *highest(void) {
-    voice *best = &finals.voices[0];
-    for (size_t i = 1; i < finals.count; i++)
-        if (height_of(&finals.voices[i]) > height_of(best))
-            best = &finals.voices[i];
-    return best;
-}
-
-static pile hand_over(const request *q) {
-    request final = {.call = ASK_FINALISE, .rack = span_of(&racks[B].list)}, initial = {.call = ASK_INITIALISE, .rack = span_of(&racks[B].list)};
-    finals = carry(A, &final);
-    must(finals.count > 0, "a box of the old rack finalises");
-    memcpy(initial.asked.identity, q->asked.identity, MAHQURITH_DIGEST);
-    initial.roll = roll_of(highest());
-    initial.previous = span_of(&racks[A].list);
-    initials = carry(B, &initial);
-    return finals;
+/* Of what the boxes of a rack signed, what the messenger's own chip finds good: an entry that is not would refuse the whole bundle. */
+static pile good_of(int rack, const pile *signed_by) {
+    const list *l = &racks[rack].list;
+    pile p = {0};
+    for (size_t i = 0; i < signed_by->count; i++) {
+        const voice *v = &signed_by->voices[i];
+        const uint8_t *key = l->bytes + 1 + MAHQURITH_KEY * v->position;
+        if (chip_marks(root, key, l->evidence[v->position], v->reply.bytes, MAHQURITH_HANDOVER, v->reply.signatures[0]) == GOOD)
+            p.voices[p.count++] = *v;
+    }
+    return p;
 }
 
 static void put(reply *r, const void *bytes, size_t length) {
@@ -129,37 +116,58 @@ static void put(reply *r, const void *bytes, size_t length) {
     r->length += (uint32_t)length;
 }
 
-/* A list of the bundle, and its proofs. Marks are left zero, as each box sets them by its own chip. */
-static void put_list(reply *bundle, reply *proofs, int rack, pile *p) {
-    put(bundle, (uint8_t[]){(uint8_t)p->count}, 1);
+static void put_list(reply *entries, int rack, pile *p) {
+    put(entries, (uint8_t[]){(uint8_t)p->count}, 1);
     for (size_t i = 0; i < p->count; i++) {
         voice *v = &p->voices[i];
-        size_t blocks = rack == A ? roll_of(v).length / MAHQURITH_BLOCK : 0;
-        put(bundle, (uint8_t[]){v->position, 0, (uint8_t)blocks}, rack == A ? 3 : 2);
-        put(bundle, v->reply.bytes + MAHQURITH_HANDOVER, blocks * MAHQURITH_BLOCK);
-        put(proofs, v->reply.signatures[0], SIGNATURE);
-        put(proofs, racks[rack].list.evidence[v->position], EVIDENCE);
+        span roll = rack == A ? roll_of(v) : (span){0, v->reply.bytes};
+        put(entries, (uint8_t[]){v->position, GOOD, (uint8_t)(roll.length / MAHQURITH_BLOCK)}, rack == A ? 3 : 2);
+        put(entries, BYTES(roll));
     }
 }
 
-/* The entry digests of the store's cues that are missing in a roll: all of them where it lacks the ledger. */
-static void put_missing(reply *bundle, const uint8_t label[MAHQURITH_LABEL], uint64_t height) {
-    uint8_t block[MAHQURITH_BLOCK], missing[8 * MAHQURITH_DIGEST];
-    uint8_t count = 0;
-    while (count < 8 && looked(label, height + count + 1, block))
-        memcpy(missing + MAHQURITH_DIGEST * count++, block + MAHQURITH_STORED_DIGEST, MAHQURITH_DIGEST);
-    put(bundle, (uint8_t[]){0, count}, 2);
-    put(bundle, missing, MAHQURITH_DIGEST * (size_t)count);
+/* The library makes roll and bundle: of what rack A's boxes signed at last, of the new entries, and of the store, where it finds what a box has missed. */
+static void make(pile *news, reply *roll, reply *bundle) {
+    reply entries = {0};
+    put_list(&entries, A, &finals);
+    put_list(&entries, B, news);
+    mahqurith_made made = mahqurith_make_bundle(BYTES(racks[A].list), BYTES(racks[B].list), BYTES(entries), store, sizeof store, roll->bytes,
+                                                sizeof roll->bytes, bundle->bytes, sizeof bundle->bytes);
+    must(made.number == MAHQURITH_ACCEPTED, "roll and bundle are made");
+    roll->length = (uint32_t)made.roll;
+    bundle->length = (uint32_t)made.bundle;
+}
+
+/* The roll does not go by the new entries: with those that are hoped for it is made before rack B has signed anything. */
+static pile hand_over(const request *q) {
+    request final = {.call = ASK_FINALISE, .rack = span_of(&racks[B].list)}, initial = {.call = ASK_INITIALISE, .rack = span_of(&racks[B].list)};
+    pile hoped = {.count = BOXES}, said = carry(A, &final);
+    reply roll, bundle;
+    finals = good_of(A, &said);
+    for (uint8_t i = 0; i < BOXES; i++)
+        hoped.voices[i].position = i;
+    make(&hoped, &roll, &bundle);
+    memcpy(initial.asked.identity, q->asked.identity, MAHQURITH_DIGEST);
+    initial.roll = (span){roll.length, roll.bytes};
+    initial.previous = span_of(&racks[A].list);
+    said = carry(B, &initial);
+    initials = good_of(B, &said);
+    return finals;
+}
+
+static void put_proofs(reply *proofs, int rack, const pile *p) {
+    for (size_t i = 0; i < p->count; i++) {
+        put(proofs, p->voices[i].reply.signatures[0], SIGNATURE);
+        put(proofs, racks[rack].list.evidence[p->voices[i].position], EVIDENCE);
+    }
 }
 
 static pile bundle(void) {
     pile p = {.count = 2};
-    reply *first = &p.voices[0].reply, *second = &p.voices[1].reply;
-    put_list(first, second, A, &finals);
-    put_list(first, second, B, &initials);
-    mahqurith_row row = mahqurith_read_roll(BYTES(roll_of(highest()))).roll.rows[0];
-    for (size_t i = 0; i < finals.count; i++)
-        put_missing(first, row.label, height_of(&finals.voices[i]));
+    reply roll;
+    make(&initials, &roll, &p.voices[0].reply);
+    put_proofs(&p.voices[1].reply, A, &finals);
+    put_proofs(&p.voices[1].reply, B, &initials);
     return p;
 }
 
@@ -197,6 +205,8 @@ static void answer(int asker) {
 int main(int count, char **words) {
     struct sockaddr_un address = {.sun_family = AF_UNIX, .sun_path = "messenger"};
     must(count == 2 && chdir(words[1]) == 0, "use: messenger FOLDER");
+    int file = open("root", O_RDONLY | O_CLOEXEC);
+    must(file >= 0 && read(file, root, sizeof root) == sizeof root && close(file) == 0, "the messenger has the maker's root");
     int ear = socket(AF_UNIX, SOCK_STREAM, 0);
     unlink(address.sun_path);
     must(ear >= 0 && bind(ear, (struct sockaddr *)&address, sizeof address) == 0 && listen(ear, 8) == 0, "the messenger listens");

@@ -10,6 +10,7 @@
 
 enum { BOXES = 5 /* of a rack */, HOUSE = 6 /* boxes of the house: one is a spare */, LEAST = 3 /* of a rack that the desk takes without asking a person */ };
 enum { A, B, RACKS };
+enum { GOOD = MAHQURITH_ATTESTED | MAHQURITH_VALID };
 
 /* Rack A is in the first slots of the first five boxes; rack B in the second slots, with the spare in the place of the third box. */
 static inline int box_of(int rack, int member) { return rack == B && member == 2 ? HOUSE - 1 : member; }

@@ -12,7 +12,7 @@ pub const LONGEST: usize = 65_536;
 /// "block count 1 to 7"
 const MOST_BLOCKS: u8 = 7;
 /// "a two-byte count of 0 to 64"
-const MOST_DIGESTS: usize = 64;
+pub const MOST_DIGESTS: usize = 64;
 
 /// The entry digests listed for one row.
 pub type Digests = Vec<[u8; 32]>;

@@ -101,6 +101,11 @@ pub enum Call {
         label: [u8; 16],
         height: u64,
     },
+    /// M-106; the first so many bytes of the area lent are the roll's area, the others the bundle's.
+    MakeBundle {
+        given: Given,
+        roll_area: usize,
+    },
     /// M-103; the rack's block of a night's file.
     WriteRackBlock {
         rack: Vec<u8>,
@@ -115,6 +120,16 @@ pub struct Papers {
     pub previous: Vec<u8>,
     pub own: Vec<u8>,
     pub bundle: Vec<u8>,
+}
+
+/// M-106: "both racks, the finalised rolls with their marks, the new entries and the cabinet store"; the entries are the front of
+/// a bundle, up to the lists.
+#[derive(Clone, Debug)]
+pub struct Given {
+    pub previous: Vec<u8>,
+    pub own: Vec<u8>,
+    pub entries: Vec<u8>,
+    pub store: Vec<u8>,
 }
 
 /// "retained identity, rack, asked kind 1 to 3, label, nonce, statement, signers"
@@ -198,6 +213,15 @@ pub struct Verdict {
     pub height: u64,
 }
 
+/// The answer of the maker: the bytes written to the roll's area and to the bundle's, both 0 in a refusal.
+#[repr(C)]
+#[derive(Clone, Copy, PartialEq, Eq, Debug, Default)]
+pub struct Made {
+    pub number: Refusal,
+    pub roll: usize,
+    pub bundle: usize,
+}
+
 /// All that a call answers; with what is lent it is the whole outcome.
 #[derive(Clone, PartialEq, Eq, Debug)]
 pub enum Reply {
@@ -207,6 +231,7 @@ pub enum Reply {
     Statement(Box<StatementRead>),
     Answer(Answer),
     Verdict(Verdict),
+    Made(Made),
 }
 
 impl Reply {
@@ -218,12 +243,21 @@ impl Reply {
             Reply::Statement(reply) => reply.number,
             Reply::Answer(reply) => reply.number,
             Reply::Verdict(reply) => reply.number,
+            Reply::Made(reply) => reply.number,
         }
     }
 
     /// The bytes written to the area; 0 for calls that have none.
     pub fn written(&self) -> usize {
         self.answer().written
+    }
+
+    /// What the maker wrote; nothing for other calls.
+    pub fn made(&self) -> Made {
+        match self {
+            Reply::Made(made) => *made,
+            _ => Made::default(),
+        }
     }
 
     /// The answer of a call that writes or changes; zero for readers and verdicts.

@@ -8,6 +8,7 @@ mod slips;
 pub mod block;
 pub mod broken;
 pub mod broken_companies;
+pub mod broken_maker;
 pub mod broken_many;
 pub mod broken_report;
 pub mod broken_store;
@@ -19,6 +20,9 @@ pub mod desk;
 pub mod header;
 #[cfg(library)]
 pub mod library;
+#[cfg(library)]
+pub mod library_maker;
+pub mod maker;
 pub mod marks;
 pub mod party;
 pub mod rack;

@@ -4,6 +4,7 @@
 
 use crate::call::{Answer, Call, HashRead, Lent, Papers, RackRead, Reply, RollRead, StatementRead, Verdict};
 use crate::header::{Asked, Place, Question, Stored, Written};
+use crate::library_maker::make_bundle;
 use crate::party::Party;
 use crate::rack::Rack;
 use crate::record::Head;
@@ -159,6 +160,10 @@ impl Party for Library {
             }
             Call::StoreRead { store, label, height } => {
                 store_read(store, Place { label: *label, height: *height }, area)
+            }
+            Call::MakeBundle { given, roll_area } => {
+                let (roll, bundle) = area.split_at_mut(*roll_area);
+                return Reply::Made(make_bundle(given, roll, bundle));
             }
             Call::WriteRackBlock { rack } => call!(mahqurith_write_rack_block [] [rack] [area]).into(),
             Call::WriteReceipt(receipt) => {

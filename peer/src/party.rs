@@ -3,6 +3,7 @@
 use crate::call::{Answer, AskVerdict, Call, HashRead, Lent, RackRead, Reply, RollRead, StatementRead, Verdict};
 use crate::calls::{self, Tried};
 use crate::desk;
+use crate::maker;
 use crate::rack::{self, Rack};
 use crate::refusals::Refusal;
 use crate::report;
@@ -63,6 +64,10 @@ pub fn perform_by(rules: &dyn Rules, lent: &mut Lent, call: &Call) -> Reply {
         }
         Call::StoreRead { store, label, height } => {
             tried(store::read(rules.store(), store, label, *height, &mut lent.area))
+        }
+        Call::MakeBundle { given, roll_area } => {
+            let (roll, bundle) = lent.area.split_at_mut(*roll_area);
+            Reply::Made(maker::make_bundle(rules, given, roll, bundle))
         }
         Call::WriteRackBlock { rack } => written(report::write_rack_block(rack, &mut lent.area)),
         Call::WriteReceipt(receipt) => written(report::write_receipt(receipt, &mut lent.area)),

@@ -62,6 +62,10 @@ pub const TEXT_TOO_LONG: Refusal = 33;
 pub const STORE_FULL: Refusal = 34;
 /// M-104: "where no undamaged block answers 35 if the area holds a damaged block"
 pub const BLOCK_DAMAGED: Refusal = 35;
+/// M-106: "36 when the store's read refuses a needed entry, two highest rows differ, or the digests don't lead to the highest tail"
+pub const NOT_LED_UP: Refusal = 36;
+/// M-106: "37 when the roll passes 63 rows, a count 64 or the bundle its length"
+pub const DOES_NOT_FIT: Refusal = 37;
 /// M-107: "38 directly after 6 for the own rack in Initialise and for the next rack in Finalise"
 pub const RACK_OF_TWO: Refusal = 38;
 /// M-108: "neither may get more than 31 rows by New"

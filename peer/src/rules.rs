@@ -3,6 +3,7 @@
 use crate::bundle::{self, Bundle, Held};
 use crate::calls::{ManyOf02, ManyRules};
 use crate::companies::{CompaniesOf02, CompanyRules};
+use crate::maker::{MakerOf02, MakerRules};
 use crate::roll::Roll;
 use crate::row::Row;
 use crate::statement::KIND_READ;
@@ -52,6 +53,11 @@ pub trait Rules {
     /// M-100
     fn many(&self) -> &dyn ManyRules {
         &ManyOf02
+    }
+
+    /// M-106
+    fn maker(&self) -> &dyn MakerRules {
+        &MakerOf02
     }
 
     /// M-108

@@ -139,7 +139,8 @@ pub fn having<'a>(
     used(blocks).filter(move |(_, said)| said.label == *label && said.height == height).map(|(place, _)| place)
 }
 
-fn look_at_all(rules: &dyn StoreRules, area: &[u8]) -> Result<Vec<Block>, Refusal> {
+/// What each block of an area says; 2 for the area's size.
+pub fn look_at_all(rules: &dyn StoreRules, area: &[u8]) -> Result<Vec<Block>, Refusal> {
     if !rules.is_area(area.len()) {
         return Err(NOT_SOUND);
     }

@@ -1,6 +1,6 @@
 //! This file tests that the structs shared with the C header lie as the header has them, by putting their places to a C compiler.
 
-use peer::call::{Answer, RackRead, RollRead, StatementRead, Verdict};
+use peer::call::{Answer, Made, RackRead, RollRead, StatementRead, Verdict};
 use peer::header::{Asked, Place, Question, Stored, Written};
 use peer::rack::Rack;
 use peer::record::Head;
@@ -45,6 +45,7 @@ fn all() -> Vec<String> {
         StatementRead = "mahqurith_statement_read" { number, statement }
         Place = "mahqurith_place" { label, height }
         Stored = "mahqurith_stored" { number, written, height }
+        Made = "mahqurith_made" { number, roll, bundle }
     }
 }
 

@@ -2,13 +2,16 @@
 
 use peer::broken::{Slip, SLIPS, SLIPS_OF_M_101, SLIPS_OF_M_107};
 use peer::broken_companies::{CompanySlip, COMPANY_SLIPS};
+use peer::broken_maker::MAKER_SLIPS;
 use peer::broken_many::MANY_SLIPS;
 use peer::broken_store::STORE_SLIPS;
 use peer::party::{Party, Peer};
 use peer::trial::lists::{place_of, LISTS};
 use peer::trial::pairing::Pairing;
 use peer::trial::prng::Prng;
-use peer::trial::{companies, history, hostile, layouts, many, missing, numbers, order, readings, records, store};
+use peer::trial::{
+    companies, history, hostile, layouts, maker, many, missing, numbers, order, readings, records, store,
+};
 use std::time::Instant;
 
 fn quiet<'a>(first: &'a dyn Party, second: &'a dyn Party, seed: u64) -> Pairing<'a> {
@@ -240,6 +243,42 @@ fn pairs_of_runs_catch_what_one_company_tells_the_other() {
     }
 }
 
+#[test]
+fn peer_makes_bundles() {
+    let mut prng = Prng::new(35);
+    let mut pairing = quiet(&Peer, &Peer, 35);
+    maker::run(&mut pairing, &mut prng);
+    for _ in 0..1_000 {
+        maker::run_any(&mut pairing, &mut prng);
+    }
+    assert_clean(&pairing);
+    let made = &pairing.tally.by_call[place_of("Make bundle")];
+    let (calls, searched) = (pairing.tally.calls, pairing.tally.searched);
+    println!("{calls} calls, makings {made:?}, {searched} bundles searched");
+    assert!(made[&0] > 1_000 && made[&36] > 500 && searched > 10_000);
+}
+
+/// Part by part, and then the order, until the slip has shown.
+fn put_to_makings(pairing: &mut Pairing, has_shown: fn(&Pairing) -> bool) {
+    let mut prng = Prng::new(pairing.seed);
+    let order: [fn(&mut Pairing, &mut Prng); 1] = [order::run];
+    for part in maker::PARTS.into_iter().chain(order) {
+        if !has_shown(pairing) {
+            part(pairing, &mut prng);
+        }
+    }
+}
+
+#[test]
+fn trials_catch_each_slip_of_the_maker() {
+    for slip in MAKER_SLIPS {
+        let mut pairing = quiet(&slip, &slip, 36);
+        put_to_makings(&mut pairing, |pairing| pairing.tally.faults > 0);
+        println!("{slip:?}: {} faults in {} calls", pairing.tally.faults, pairing.tally.calls);
+        assert!(pairing.tally.faults > 0, "{slip:?} was not caught");
+    }
+}
+
 fn slips_of_histories() -> impl Iterator<Item = Slip> {
     SLIPS.into_iter().filter(|slip| slip.shows_in_histories())
 }
@@ -319,6 +358,15 @@ fn comparison_sees_each_slip_of_the_companies_as_a_difference() {
     for slip in COMPANY_SLIPS {
         let mut pairing = quiet(&Peer, &slip, 34);
         companies::run(&mut pairing, &mut Prng::new(34));
+        assert!(pairing.tally.differences > 0, "{slip:?} made no difference");
+    }
+}
+
+#[test]
+fn comparison_sees_each_slip_of_the_maker_as_a_difference() {
+    for slip in MAKER_SLIPS {
+        let mut pairing = quiet(&Peer, &slip, 37);
+        put_to_makings(&mut pairing, |pairing| pairing.tally.differences > 0);
         assert!(pairing.tally.differences > 0, "{slip:?} made no difference");
     }
 }

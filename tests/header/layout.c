@@ -440,6 +440,72 @@ static void test_store(void)
     expect(mahqurith_store_append(store, MAHQURITH_BLOCK, place, message, 0).number == MAHQURITH_STORE_FULL, "a full store");
 }
 
+enum { FRONT = 1 + 2 * (3 + MAHQURITH_BLOCK) + 5, WHOLE = FRONT + 2 * 2 + 2 * MAHQURITH_DIGEST, THREE_RACK = 1 + 3 * MAHQURITH_KEY };
+
+static struct {
+    uint8_t previous[THREE_RACK], own[THREE_RACK], entries[FRONT], store[2 * MAHQURITH_BLOCK], roll[MAHQURITH_BLOCK + 1], bundle[WHOLE + 1];
+} maker;
+
+static void write_rack_of_three(uint8_t first, uint8_t rack[THREE_RACK])
+{
+    rack[0] = 3;
+    for (uint8_t i = 0; i < 3; i++)
+        memset(rack + 1 + i * MAHQURITH_KEY, first + i, MAHQURITH_KEY);
+}
+
+/* One old roll has a ledger with two entries, which the store has too; another is empty, and lacks both. */
+static void set_maker(void)
+{
+    static mahqurith_roll one, none;
+    const uint8_t good = MAHQURITH_ATTESTED | MAHQURITH_VALID, heads[2][3] = {{0, good, 1}, {2, good, 1}}, news[] = {2, 0, good, 1, good};
+    mahqurith_place place = {{7}, 0};
+    write_rack_of_three(KEY_A, maker.previous);
+    write_rack_of_three(KEY_B, maker.own);
+    for (place.height = 1; place.height <= 2; place.height++)
+        expect(mahqurith_store_append(maker.store, sizeof maker.store, place, news, (size_t)place.height).number == 0, "an entry for the maker");
+    one.count = 1;
+    one.rows[0].height = 2;
+    memcpy(one.rows[0].label, place.label, MAHQURITH_LABEL);
+    memcpy(one.rows[0].tail, maker.store + MAHQURITH_BLOCK + MAHQURITH_STORED_TAIL, MAHQURITH_DIGEST);
+    maker.entries[0] = 2;
+    memcpy(maker.entries + 1, heads[0], 3);
+    memcpy(maker.entries + 4 + MAHQURITH_BLOCK, heads[1], 3);
+    memcpy(maker.entries + 7 + 2 * MAHQURITH_BLOCK, news, sizeof news);
+    expect(mahqurith_write_roll(one, maker.entries + 4, MAHQURITH_BLOCK).number == 0
+               && mahqurith_write_roll(none, maker.entries + 7 + MAHQURITH_BLOCK, MAHQURITH_BLOCK).number == 0, "the rolls for the maker");
+    memset(maker.roll, GUARD, sizeof maker.roll);
+    memset(maker.bundle, GUARD, sizeof maker.bundle);
+}
+
+static mahqurith_made make(size_t entries, size_t store, size_t roll, size_t bundle)
+{
+    return mahqurith_make_bundle(maker.previous, THREE_RACK, maker.own, THREE_RACK, maker.entries, entries, maker.store, store, maker.roll, roll, maker.bundle, bundle);
+}
+
+static void test_maker(void)
+{
+    const size_t full = sizeof maker.store, block = MAHQURITH_BLOCK;
+    const struct { size_t entries, store, roll, bundle; uint32_t number; } refusals[] = {
+        {FRONT, full - 1, block, WHOLE, MAHQURITH_RECORD_NOT_SOUND}, {FRONT - 1, full, block, WHOLE, MAHQURITH_LIST_BROKEN},
+        {FRONT, block, 0, 0, MAHQURITH_NOT_LEADING},                 {FRONT, full, block - 1, WHOLE, MAHQURITH_AREA_TOO_SHORT},
+        {FRONT, full, block, WHOLE - 1, MAHQURITH_AREA_TOO_SHORT},
+    };
+    const uint8_t counts[] = {0, 0, 0, 2};
+    set_maker();
+    for (size_t i = 0; i < sizeof refusals / sizeof *refusals; i++) {
+        mahqurith_made refused = make(refusals[i].entries, refusals[i].store, refusals[i].roll, refusals[i].bundle);
+        expect(refused.number == refusals[i].number && refused.roll == 0 && refused.bundle == 0, "a refusal of the maker");
+        expect(all(maker.roll, sizeof maker.roll, GUARD) && all(maker.bundle, sizeof maker.bundle, GUARD), "a refusal of the maker changed something");
+    }
+    mahqurith_made made = make(FRONT, full, block, WHOLE);
+    expect(made.number == 0 && made.roll == block && made.bundle == WHOLE && maker.roll[block] == GUARD && maker.bundle[WHOLE] == GUARD, "roll and bundle made");
+    expect(same(maker.roll, maker.entries + 4, block) && same(maker.bundle, maker.entries, FRONT), "the highest row, and the entries");
+    expect(same(maker.bundle + FRONT, counts, sizeof counts), "the counts of the lists");
+    for (size_t i = 0; i < 2; i++)
+        expect(same(maker.bundle + FRONT + sizeof counts + i * MAHQURITH_DIGEST, maker.store + i * block + MAHQURITH_STORED_DIGEST, MAHQURITH_DIGEST),
+               "a digest of the store");
+}
+
 int main(void)
 {
     uint8_t block[MAHQURITH_BLOCK];
@@ -459,6 +525,7 @@ int main(void)
     test_joining(block);
     test_report();
     test_store();
+    test_maker();
     expect(mahqurith_sha256(message, MAHQURITH_HASH_INPUT, block) == 0
                && mahqurith_sha256(message, MAHQURITH_HASH_INPUT + 1, block) == MAHQURITH_INPUT_TOO_LONG, "the hash's longest message");
     puts("header: structs, sizes and constants are the library's");

@@ -52,6 +52,8 @@ typedef mahqurith_answer call(record *x, empty none, uint8_t *area);
 #define RACK_B rack_b, sizeof rack_b
 #define ROLL roll, sizeof roll
 #define BUNDLE bundle, sizeof bundle
+#define NO_BYTES none, 0
+#define NO_ROOM area, 0
 #define AREA area, MAHQURITH_FINALISED
 
 CASE(wake_rows, mahqurith_wake(NO_ROWS, asked))
@@ -244,6 +246,27 @@ static void store_of(const uint8_t *none, uint8_t *area)
            "a text of no bytes read");
 }
 
+/* One old entry, which is the newest: the maker needs nothing of the store. */
+static void maker_of(const uint8_t *none, uint8_t *area)
+{
+    static uint8_t entries[4 + sizeof roll + 3], made_roll[sizeof roll], made[sizeof entries + 2];
+    const uint8_t before[] = {1, 0, MAHQURITH_ATTESTED | MAHQURITH_VALID, 1}, after[] = {1, 0, MAHQURITH_ATTESTED | MAHQURITH_VALID};
+    memcpy(entries, before, sizeof before);
+    memcpy(entries + sizeof before, roll, sizeof roll);
+    memcpy(entries + sizeof before + sizeof roll, after, sizeof after);
+#define MADE(previous, own, front, out, whole) mahqurith_make_bundle(previous, own, front, none, 0, out, whole)
+#define FRONT entries, sizeof entries
+#define MADE_ROLL made_roll, sizeof made_roll
+#define WHOLE made, sizeof made
+    expect(MADE(RACK_A, RACK_B, FRONT, MADE_ROLL, WHOLE).number == MAHQURITH_ACCEPTED && same(made, entries, sizeof entries), "the maker, no store");
+    expect(MADE(NO_BYTES, RACK_B, FRONT, MADE_ROLL, WHOLE).number == MAHQURITH_RACK_BROKEN, "the maker, no previous rack");
+    expect(MADE(RACK_A, NO_BYTES, FRONT, MADE_ROLL, WHOLE).number == MAHQURITH_RACK_BROKEN, "the maker, no own rack");
+    expect(MADE(RACK_A, RACK_B, NO_BYTES, MADE_ROLL, WHOLE).number == MAHQURITH_LIST_BROKEN, "the maker, no entries");
+    expect(MADE(RACK_A, RACK_B, FRONT, NO_ROOM, WHOLE).number == MAHQURITH_AREA_TOO_SHORT, "the maker, no area for the roll");
+    expect(MADE(RACK_A, RACK_B, FRONT, MADE_ROLL, NO_ROOM).number == MAHQURITH_AREA_TOO_SHORT, "the maker, no area for the bundle");
+    expect(MADE(NO_BYTES, NO_BYTES, NO_BYTES, NO_ROOM, NO_ROOM).number == MAHQURITH_RACK_BROKEN, "the maker of nothing");
+}
+
 static void wake(record *x, uint8_t key)
 {
     memset(asked.key, key, sizeof asked.key);
@@ -298,8 +321,10 @@ int main(void)
     report_of(place, place);
     store_of(NULL, NULL);
     store_of(place, place);
+    maker_of(NULL, NULL);
+    maker_of(place, place);
     for (size_t i = 0; i < sizeof place; i++)
         expect(place[i] == GUARD, "something was written where the length is 0");
-    printf("null: %d calls of the keeper, the verdict, the layouts, a bundle's entries, the hash, the report's blocks and the store take null where a length is 0\n", tried);
+    printf("null: %d calls of the keeper, the verdict, the layouts, a bundle's entries, the hash, the report's blocks, the store and the maker take null where a length is 0\n", tried);
     return 0;
 }

@@ -1,7 +1,7 @@
-//! Mahqurith from Rust: a keeper's record and its calls, a desk's verdict, the messenger's store, the layouts and the hash, over the static library whose every function is
-//! proved. Nothing here decides anything: each function passes on what it is given and turns the answer into a `Result`.
+//! Mahqurith from Rust: a keeper's record and its calls, a desk's verdict, the messenger's store and its maker of bundles, the layouts and the hash, over the static library
+//! whose every function is proved. Nothing here decides anything: each function passes on what it is given and turns the answer into a `Result`.
 //!
-//! Areas are made here at their exact sizes and a record always has 63 rows, so refusal 1 and a table of another length cannot occur.
+//! Areas are made here at sizes that suffice and a record always has 63 rows, so refusal 1 and a table of another length cannot occur.
 //!
 //! ```
 //! use mahqurith::{Keeper, Question, Rack, Kind, verdict, sha256};
@@ -37,7 +37,7 @@ mod refusal;
 mod store;
 pub mod sys;
 
-pub use bundle::{bundle_mark, bundle_position};
+pub use bundle::{bundle_mark, bundle_position, make_bundle, Made};
 pub use desk::{rack_block, receipt_block, verdict, Found, Kind, Question, ReportBlock};
 pub use keeper::{Finalised, Keeper, List, RECORD};
 pub use layouts::{rack_digest, Rack, Roll, Statement};

@@ -77,6 +77,8 @@ refusals! {
     33 TextTooLong "text over 418 bytes",
     34 StoreFull "every block of the store is used",
     35 BlockDamaged "no undamaged block answers, and the store holds a damaged one",
+    36 NotLeading "the store's read refuses a needed entry, two highest rows differ, or the digests do not lead to the highest tail",
+    37 BundleTooLarge "the roll passes 63 rows, a count 64 or the bundle its length",
     38 RackOfTwo "rack of two",
     39 CompanyFull "company with 31 rows or more",
 }

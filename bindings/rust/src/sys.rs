@@ -150,6 +150,16 @@ pub struct Stored {
     pub height: u64,
 }
 
+/// What the maker of bundles answers.
+#[repr(C)]
+#[derive(Clone, Copy, PartialEq, Eq, Debug)]
+#[allow(missing_docs)]
+pub struct Made {
+    pub number: u32,
+    pub roll: usize,
+    pub bundle: usize,
+}
+
 /// An entry's position in its rack: zero with a refusal.
 #[repr(C)]
 #[derive(Clone, Copy, PartialEq, Eq, Debug)]
@@ -270,6 +280,20 @@ extern "C" {
     ) -> Written;
     pub fn mahqurith_store_append(area: *mut u8, area_length: usize, asked: Place, text: *const u8, text_length: usize) -> Stored;
     pub fn mahqurith_store_read(area: *const u8, area_length: usize, asked: Place, output: *mut u8, output_length: usize) -> Stored;
+    pub fn mahqurith_make_bundle(
+        previous: *const u8,
+        previous_length: usize,
+        own: *const u8,
+        own_length: usize,
+        entries: *const u8,
+        entries_length: usize,
+        store: *const u8,
+        store_length: usize,
+        roll: *mut u8,
+        roll_length: usize,
+        bundle: *mut u8,
+        bundle_length: usize,
+    ) -> Made;
     pub fn mahqurith_sha256(message: *const u8, length: usize, digest: *mut [u8; 32]) -> u32;
     pub fn mahqurith_tail_after(tail: *mut [u8; 32], entry: *const [u8; 32]);
 }

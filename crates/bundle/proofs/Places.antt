@@ -4,6 +4,7 @@ use mathlib.Core.Bool.{Bool, true, _&&_}
 use mathlib.Core.List.{List}
 use Prim.Native.Nat.{ℕ, zero, suc, _+_, _-_, _*_, _/_, _<_, _≤_}
 use native.Mathlib.Decide.{decLt}
+use native.Mathlib.Nat.{mul-suc, mul-le-mul-left}
 use native.Mathlib.Numerals.{add-one}
 use native.Mathlib.Omega.{arith}
 use borrow.Author.Tests.{leb-true, eqb-true}
@@ -19,7 +20,7 @@ use Rattle.rows.proofs.Tables.{each-of}
 use Rattle.roll.specs.Blocks.{block-bytes}
 use Rattle.statement.specs.Kinds.{digest-bytes}
 use Rattle.rules.specs.Bundle.{longest-bundle, most-blocks, most-added, byte, old-count, old-at, old-position, old-marks, old-blocks, old-roll, blocks-fit}
-use Rattle.rules.specs.Bundle.{new-at, new-count, new-entries, two-byte, list-at, added, digests, added-fits, bundle-fits}
+use Rattle.rules.specs.Bundle.{new-at, new-count, new-entries, two-byte, list-at, list-of, added, digests, added-fits, bundle-fits}
 
 -- what grows at each step has grown from any place to any later one
 grown : (f : ℕ → ℕ) → ((i : ℕ) → f i ≤ f (suc i)) → (i j : ℕ) → i ≤ j → f i ≤ f j
@@ -116,6 +117,10 @@ module _ (s : List ℕ) where
 
     pub new-half : length (new-entries s) / 2 ≡ new-count s
     new-half = omega (arith, new-long)
+
+-- the number of a list is below how many there are
+pub list-below : (rows i a r : ℕ) → i < a → r < rows → list-of rows i r < rows * a
+list-below rows i a r h k = omega (arith, mul-suc rows i, mul-le-mul-left {m = suc i} {n = a} rows h)
 
 -- what a bundle has
 module _ (n m rows : ℕ) (s : List ℕ) (fit : bundle-fits n m rows s ≡ true) where

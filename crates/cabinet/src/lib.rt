@@ -13,7 +13,7 @@ use rows::TAIL;
 // Where each part of a block stands.
 pub const HEIGHT_PLACE: usize = LABEL;
 
-const DIGEST_PLACE: usize = HEIGHT_PLACE + HEIGHT;
+pub const DIGEST_PLACE: usize = HEIGHT_PLACE + HEIGHT;
 
 pub const TAIL_PLACE: usize = DIGEST_PLACE + DIGEST;
 

@@ -1,31 +1,31 @@
 -- Laws of the tests of both calls in their order: which part decides, and what is known where none refuses. Assumes nothing.
 use mathlib.Core.Path.{_≡_, refl, sym, ap, _∙_}
 use mathlib.Core.Bool.{true, false, not}
-use mathlib.Core.List.{List, [], _∷_, _++_, append-nil, append-assoc}
+use mathlib.Core.List.{List, [], _∷_, _++_, append-nil}
 use Prim.Native.Nat.{ℕ, _≤_, _<_}
 use native.Mathlib.Omega.{arith}
 use borrow.Author.Tests.{eqb-false, ltb-true, not-false}
 use lib.ListN.{length}
 use lib.Dec.{ltb}
-use Rattle.refusals.specs.{accepted, not-prepared, rack-broken, digest-differs, list-broken, roll-broken, too-few, signature-not-valid, initialise-not-valid, not-derived}
+use Rattle.refusals.specs.{accepted, not-prepared, rack-broken, digest-differs, list-broken, roll-broken, not-derived}
 use Rattle.refusals.specs.Order.{Test, _⇒_, first}
-use Rattle.refusals.proofs.Orders.{numbered, passes, stops, goes-on, none-refuses, refuses, lets-by}
+use Rattle.refusals.proofs.Orders.{numbered, passes, stops, goes-on, none-refuses}
 use Rattle.octets.specs.Layouts.{holds}
 use Rattle.rack.specs.Racks.{rack-layout}
-use Rattle.marks.specs.Entries.{marks-tests, pair-marks}
-use Rattle.marks.proofs.Refused.{marks-numbered}
 use Rattle.rows.specs.Table.{each, rows-fit}
 use Rattle.rows.proofs.Tables.{fit-count}
 use Rattle.rules.specs.declared.Head.{Head}
 use Rattle.rules.specs.Record.{prepared}
 use Rattle.rules.specs.Outcomes.{Lent, lending, readiness}
-use Rattle.rules.specs.Bundle.{old-count, old-marks, new-count, new-entries, bundle-fits}
+use Rattle.rules.specs.Bundle.{old-count, bundle-fits}
 use Rattle.rules.specs.Derivation.{derived}
 use Rattle.rules.specs.Activate.{rack-size, own-roll, racks-differ, bundle-tests, handover-tests}
 use Rattle.rules.specs.Check.{entries-of}
 use Rattle.rules.proofs.Firsts.{ready, sound-rows}
 use Rattle.bundle.proofs.Places.{bundle-short, bundle-ends}
-use Rattle.handover.specs.Asked.{rack-tests, few, entry-test, roll-held, Laid, Shown}
+use Rattle.entries.specs.Asked.{attended-tests}
+use Rattle.entries.proofs.Attended.{attended-numbered}
+use Rattle.handover.specs.Asked.{rack-tests, entry-test, roll-held, Laid, Shown}
 
 -- readiness, the racks, and the bundle's string with its rolls
 module _ (size : ℕ) (k : Lent) (previous own s : List ℕ) where
@@ -127,43 +127,19 @@ laid {h} {table} {previous} {own} {s} k =
       short = bundle-short (rack-size previous) (rack-size own) (h .count) s (k .fits);
     }
 
--- majorities, the marks of both lists, and the roll
+-- what stands behind the bundle, and the roll
 module _ (k : Lent) (previous own s : List ℕ) where
-  abbrev olds : List Test
-  olds = marks-tests signature-not-valid (old-marks s) (old-count s)
-
-  abbrev news : List Test
-  news = marks-tests initialise-not-valid (pair-marks (new-entries s)) (new-count s)
-
   abbrev pub roll-test : List Test
   roll-test = (not (derived (own-roll k) s) ⇒ not-derived) ∷ []
 
-  handover-parts : handover-tests k previous own s ≡ (few previous own s ⇒ too-few) ∷ (olds ++ (news ++ roll-test))
-  unfolding handover-tests
-  handover-parts = ap (λ (ts : List Test). (few previous own s ⇒ too-few) ∷ ts) (append-assoc olds news roll-test)
+  handover-parts : handover-tests k previous own s ≡ attended-tests previous own s ++ roll-test
+  unfolding handover-tests attended-tests
+  handover-parts = refl
 
-  pub few-refuse : few previous own s ≡ true → first (handover-tests k previous own s) ≡ too-few
-  few-refuse e = ap first handover-parts ∙ refuses (few previous own s) too-few (olds ++ (news ++ roll-test)) e
+  pub attended-refuse : (n : ℕ) → n ≡ first (attended-tests previous own s) → (n ≡ accepted → ⊥) → n ≡ first (handover-tests k previous own s)
+  attended-refuse n e r =
+      e ∙ sym (ap first handover-parts ∙ stops (attended-tests previous own s) roll-test n (attended-numbered previous own s) e r)
 
-  module _ (many : few previous own s ≡ false) where
-    olds-next : first (handover-tests k previous own s) ≡ first (olds ++ (news ++ roll-test))
-    olds-next = ap first handover-parts ∙ lets-by (few previous own s) too-few (olds ++ (news ++ roll-test)) many
-
-    olds-numbered : numbered olds ≡ true
-    olds-numbered = marks-numbered signature-not-valid (omega arith) (old-marks s) (old-count s)
-
-    pub old-refuse : (n : ℕ) → n ≡ first olds → (n ≡ accepted → ⊥) → n ≡ first (handover-tests k previous own s)
-    old-refuse n e r = e ∙ sym (olds-next ∙ stops olds (news ++ roll-test) n olds-numbered e r)
-
-    module _ (e : first olds ≡ accepted) where
-      news-next : first (handover-tests k previous own s) ≡ first (news ++ roll-test)
-      news-next = olds-next ∙ goes-on olds (news ++ roll-test) accepted olds-numbered (sym e) refl
-
-      news-numbered : numbered news ≡ true
-      news-numbered = marks-numbered initialise-not-valid (omega arith) (pair-marks (new-entries s)) (new-count s)
-
-      pub new-refuse : (n : ℕ) → n ≡ first news → (n ≡ accepted → ⊥) → n ≡ first (handover-tests k previous own s)
-      new-refuse n f r = f ∙ sym (news-next ∙ stops news roll-test n news-numbered f r)
-
-      pub roll-decides : first news ≡ accepted → first (handover-tests k previous own s) ≡ first roll-test
-      roll-decides f = news-next ∙ goes-on news roll-test accepted news-numbered (sym f) refl
+  pub roll-decides : first (attended-tests previous own s) ≡ accepted → first (handover-tests k previous own s) ≡ first roll-test
+  roll-decides e =
+      ap first handover-parts ∙ goes-on (attended-tests previous own s) roll-test accepted (attended-numbered previous own s) (sym e) refl

@@ -11,11 +11,11 @@ use Rattle.rows.proofs.Tables.{and-false, each-fails}
 use Rattle.roll.specs.Roll.{Roll, roll-layout}
 use Rattle.rules.specs.Bundle.{old-roll, list-at, list-of, added, digests}
 use Rattle.rules.specs.Derivation.{no-more, roll-of, roll-derived}
+use Rattle.rules.proofs.Somes.{each-same}
 use Rattle.bundle.proofs.Places.{new-some, new-before-lists}
 use Rattle.derivation.specs.Walk.{passed, met, derived-from}
 use Rattle.derivation.proofs.Walks.{all-passed, met-has, met-derives, passes-all}
 use Rattle.handover.specs.Asked.{roll-held, led, led-to, keeps}
-use Rattle.handover.proofs.Kept.{each-same}
 
 -- row r of ours is derived by what old entry i lists from the row of an old roll that is next, or from nothing
 abbrev pub walked : Roll → Roll → List ℕ → ℕ → ℕ → Bool

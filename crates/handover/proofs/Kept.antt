@@ -1,6 +1,6 @@
--- Laws of the rows that old entries keep: tests that agree, a roll that is not derived, and flags that are set one by one. Assumes nothing.
-use mathlib.Core.Path.{_≡_, refl, ap, ap₂, _∙_}
-use mathlib.Core.Bool.{Bool, false, _&&_, _||_}
+-- Laws of the rows that old entries keep: a roll that is not derived, and flags that are set one by one. Assumes nothing.
+use mathlib.Core.Path.{_≡_, refl, ap, _∙_}
+use mathlib.Core.Bool.{Bool, false, _||_}
 use mathlib.Core.List.{List}
 use Prim.Native.Nat.{ℕ, zero, suc, _+_, _<_, _≤_}
 use native.Mathlib.Decide.{decLt}
@@ -13,13 +13,6 @@ use Rattle.roll.specs.Roll.{Roll}
 use Rattle.rules.specs.Bundle.{old-count}
 use Rattle.rules.specs.Derivation.{roll-derived, derived}
 use Rattle.handover.specs.Asked.{flag}
-
--- two tests that agree on all numbers below n
-module _ (f g : ℕ → Bool) where
-  pub each-same : (n : ℕ) → ((i : ℕ) → i < n → f i ≡ g i) → each f n ≡ each g n
-  unfolding each
-  each-same zero h = refl
-  each-same (suc n) h = ap₂ (λ (p q : Bool). p && q) (each-same n (λ i l. h i (omega arith))) (h n (omega arith))
 
 pub not-derived : (ours : Roll) (s : List ℕ) → each (roll-derived ours s) (old-count s) ≡ false → derived ours s ≡ false
 unfolding derived

@@ -1,14 +1,14 @@
 -- Laws of the places of a bundle's parts, walked from one to the next, and of the parts that are cut out there. Assumes nothing.
 use mathlib.Core.Path.{_≡_, sym, ap, _∙_}
 use mathlib.Core.List.{List}
-use Prim.Native.Nat.{ℕ, suc, _+_, _*_, _/_, _<_, _≤_}
-use native.Mathlib.Nat.{mul-suc, mul-le-mul-left}
+use Prim.Native.Nat.{ℕ, _+_, _*_, _/_, _<_, _≤_}
+use native.Mathlib.Nat.{mul-le-mul-left}
 use native.Mathlib.Omega.{arith}
 use lib.ListN.{length, drop, length-drop}
 use lib.Seq.{length-take-le}
 use Rattle.rows.specs.Sizes.{most-rows}
 use Rattle.statement.specs.Kinds.{digest-bytes}
-use Rattle.rules.specs.Bundle.{old-count, old-at, new-at, new-count, two-byte, list-at, list-of, added, digests}
+use Rattle.rules.specs.Bundle.{old-count, old-at, new-at, new-count, two-byte, list-at, added, digests}
 use Rattle.bundle.proofs.Places.{old-next, list-next, list-later, list-ends, old-before-new, new-before-lists}
 use Rattle.handover.specs.Asked.{Laid}
 
@@ -22,10 +22,6 @@ module _ (s : List ℕ) where
   digests-count j h =
       let n : length (digests s j) ≡ digest-bytes * added s j = length-take-le (digest-bytes * added s j) (drop (list-at s j + 2) s) (omega (arith, length-drop (list-at s j + 2) s)) in
       omega arith
-
--- the number of a list is below how many there are
-pub list-below : (rows i a r : ℕ) → i < a → r < rows → list-of rows i r < rows * a
-list-below rows i a r h k = omega (arith, mul-suc rows i, mul-le-mul-left {m = suc i} {n = a} rows h)
 
 pub few-lists : (rows i : ℕ) → rows ≤ most-rows → i < 256 → rows * i ≤ 16128
 few-lists rows i h k = omega (arith, mul-le-mul-left {m = i} {n = 256} rows (omega arith))

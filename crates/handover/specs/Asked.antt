@@ -8,11 +8,11 @@ use lib.Dec.{eqb, ltb}
 use Rattle.refusals.specs.{rack-broken, digest-differs, list-broken}
 use Rattle.refusals.specs.Order.{Test, _⇒_, first}
 use Rattle.octets.specs.Layouts.{holds}
-use Rattle.rack.specs.Racks.{rack-layout, majority}
+use Rattle.rack.specs.Racks.{rack-layout}
 use Rattle.rows.specs.Sizes.{most-rows}
 use Rattle.rows.specs.Table.{each, rows-fit}
 use Rattle.rows.specs.Digests.{roll-digest}
-use Rattle.roll.specs.Roll.{Roll, roll-layout}
+use Rattle.roll.specs.Roll.{Roll}
 use Rattle.statement.specs.declared.Kind.the-variants.{Finalise, Initialise}
 use Rattle.statement.specs.declared.Statement.{Statement}
 use Rattle.statement.specs.Kinds.{handover-size}
@@ -20,10 +20,11 @@ use Rattle.statement.specs.Cut.{handover-of}
 use Rattle.rules.specs.declared.Head.{Head}
 use Rattle.rules.specs.Outcomes.{Lent}
 use Rattle.rules.specs.Rows.{is-absent}
-use Rattle.rules.specs.Bundle.{longest-bundle, old-count, old-roll, new-count, list-at, list-of, added, digests, bundle-fits}
+use Rattle.rules.specs.Bundle.{longest-bundle, old-count, list-at, list-of, added, digests, bundle-fits}
 use Rattle.rules.specs.Derivation.{row-in, row-derived, roll-of, roll-derived}
 use Rattle.rules.specs.Activate.{rack-size, racks-differ, bundle-tests, handover-tests}
 use Rattle.rules.specs.Check.{old-list, entries-of}
+pub use Rattle.entries.specs.Asked.{roll-held}
 
 -- "6 (previous, then own), 21"
 unfoldable pub rack-tests : Head → List ℕ → List ℕ → List Test
@@ -32,10 +33,6 @@ rack-tests h previous own =
     ∷ (not (holds rack-layout own) ⇒ rack-broken)
     ∷ (racks-differ h previous own ⇒ digest-differs)
     ∷ []
-
--- "16": a list has fewer entries than a majority of its rack
-abbrev pub few : List ℕ → List ℕ → List ℕ → Bool
-few previous own s = ltb (old-count s) (majority (rack-size previous)) || ltb (new-count s) (majority (rack-size own))
 
 -- "then 22 if that list has no such entry"
 abbrev pub entry-test : List ℕ → ℕ → ℕ → List Test
@@ -47,10 +44,6 @@ activate-refusal k previous own s = first (bundle-tests 0 k previous own s ++ ha
 
 abbrev pub check-refusal : Lent → List ℕ → List ℕ → List ℕ → ℕ → ℕ → ℕ
 check-refusal k previous own s list i = first (bundle-tests handover-size k previous own s ++ entry-test s list i)
-
--- the blocks of old entry i are a roll
-abbrev pub roll-held : List ℕ → ℕ → Bool
-roll-held s i = holds roll-layout (old-roll s i)
 
 -- the parts of a string lie within it, for a roll of so many rows
 pub record Laid (rows : ℕ) (s : List ℕ) : Type 0 where

@@ -1,55 +1,27 @@
 // Activate.
 use crate::asking::unbundled;
 use crate::descent::derived;
-use bundle::new_count;
-use bundle::old_count;
-use bundle::unmarked_new;
-use bundle::unmarked_old;
-use rack::majority;
+use entries::unattended;
 use record::ACTIVE;
 use record::acceptance;
 use record::refusal;
 use rules::Head;
 use rules::Told;
 ghost use mathlib.Core.Path.{_≡_};
-ghost use mathlib.Core.Bool.{true};
 ghost use mathlib.Core.List.{[]};
-ghost use Prim.Native.Nat.{_<_, _≤_};
-ghost use lib.ListN.{length};
 ghost use Rattle.refusals.specs.Order.{first};
-ghost use Rattle.octets.specs.Layouts.{holds};
-ghost use Rattle.rack.specs.Racks.{rack-layout};
-ghost use Rattle.rules.specs.Bundle.{longest-bundle, new-at};
 ghost use Rattle.rules.specs.Outcomes.{Lent, outcome};
 ghost use Rattle.rules.specs.Activate.{handover-tests, acting, activating};
-ghost use Rattle.handover.specs.Asked.{few, activate-refusal, Shown};
-
-// Whether a list has fewer entries than a majority of its rack.
-fn are_too_few(previous: &[u8], own: &[u8], s: &[u8]) -> bool
-    requires { ⌜ (holds rack-layout (now previous) ≡ true) × (holds rack-layout (now own) ≡ true) × (new-at (now s) < length (now s)) × (length (now s) ≤ longest-bundle) ⌝ }
-    ensures { λ r. ⌜ r ≡ few (now (previous .entry)) (now (own .entry)) (now (s .entry)) ⌝ }
-{
-    if old_count(s) < majority(previous[0]) as usize {
-        return true;
-    }
-    new_count(s) < majority(own[0]) as usize
-}
+ghost use Rattle.handover.specs.Asked.{activate-refusal, Shown};
 
 // The first refusal of what a bundle shows, or 0.
 fn unhanded(head: Head, table: &[u8], previous: &[u8], own: &[u8], s: &[u8]) -> u32
     requires { ⌜ Shown head (now table) (now previous) (now own) (now s) ⌝ }
     ensures { λ r. ⌜ r ≡ first (handover-tests (record { head = head; table = now (table .entry); area = [] }) (now (previous .entry)) (now (own .entry)) (now (s .entry))) ⌝ }
 {
-    if are_too_few(previous, own, s) {
-        return refusals::TOO_FEW;
-    }
-    let old = unmarked_old(s, refusals::SIGNATURE_NOT_VALID);
-    if old != refusals::ACCEPTED {
-        return old;
-    }
-    let new = unmarked_new(s, refusals::INITIALISE_NOT_VALID);
-    if new != refusals::ACCEPTED {
-        return new;
+    let n = unattended(previous, own, s);
+    if n != refusals::ACCEPTED {
+        return n;
     }
     if !derived(table, head.count as usize, s) {
         return refusals::NOT_DERIVED;

@@ -1,7 +1,7 @@
 // What Activate and Bytes to check both ask.
 use crate::racks::unracked;
-use crate::reading::rolls_hold;
 use bundle::is_bundle;
+use entries::rolls_hold;
 use record::PREPARED;
 use record::unready;
 use rules::Head;

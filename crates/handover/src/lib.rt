@@ -5,7 +5,6 @@ mod checking;
 mod descent;
 mod keeping;
 mod racks;
-mod reading;
 
 pub use activating::activate;
 pub use checking::bytes_to_check;

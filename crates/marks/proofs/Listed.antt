@@ -1,5 +1,6 @@
--- Laws of a list of entries: by the lowest position that may come next, one entry more, one that does not fit, and what a list has that does. Assumes nothing.
-use mathlib.Core.Path.{_≡_, sym}
+-- Laws of a list of entries: by the lowest position that may come next, one entry more, one that does not fit, what a list has that does, and two lists that
+-- agree. Assumes nothing.
+use mathlib.Core.Path.{_≡_, refl, sym, ap, ap₂}
 use mathlib.Core.Bool.{true, false, _&&_, and-false}
 use Prim.Native.Nat.{ℕ, zero, suc, _+_, _<_, _≤_}
 use native.Mathlib.Decide.{decLt}
@@ -93,3 +94,17 @@ module _ (n : ℕ) (position marks : ℕ → ℕ) where
   pub no-more-than : (c : ℕ) → entries-fit n position marks c ≡ true → c ≤ n
   no-more-than zero fit = omega arith
   no-more-than (suc c) fit = omega (arith, not-below (suc c) fit c (omega arith), in-rack (suc c) fit c (omega arith))
+
+-- lists that agree in their first c entries
+up-alike : (p q : ℕ → ℕ) (c i : ℕ) → ((j : ℕ) → j < c → p j ≡ q j) → i < c → goes-up p i ≡ goes-up q i
+unfolding goes-up
+up-alike p q c zero e h = refl
+up-alike p q c (suc i) e h = ap₂ ltb (e i (omega arith)) (e (suc i) h)
+
+pub entries-alike :
+    (n : ℕ) (p q m l : ℕ → ℕ) (c : ℕ) → ((i : ℕ) → i < c → p i ≡ q i) → ((i : ℕ) → i < c → m i ≡ l i) → entries-fit n p m c ≡ entries-fit n q l c
+unfolding entries-fit entry-fits
+entries-alike n p q m l zero e f = refl
+entries-alike n p q m l (suc c) e f =
+    ap₂ _&&_ (entries-alike n p q m l c (λ i h. e i (omega arith)) (λ i h. f i (omega arith)))
+    (ap₂ _&&_ (ap₂ _&&_ (ap (λ (x : ℕ). ltb x n) (e c (omega arith))) (up-alike p q (suc c) c e (omega arith))) (ap marks-fit (f c (omega arith))))

@@ -1,5 +1,6 @@
--- Laws of the refusals of marks: their numbers, one entry more, the first entry that is refused, and what is known where none is. Assumes nothing.
-use mathlib.Core.Path.{_≡_, refl, sym, _∙_}
+-- Laws of the refusals of marks: their numbers, one entry more, the first entry that is refused, what is known where none is, and lists that agree. Assumes
+-- nothing.
+use mathlib.Core.Path.{_≡_, refl, sym, ap, ap₂, _∙_}
 use mathlib.Core.Bool.{Bool, true, false, not, _&&_}
 use mathlib.Core.List.{List, [], _∷_, _++_}
 use Prim.Native.Nat.{ℕ, zero, suc, _+_, _<_}
@@ -87,3 +88,10 @@ module _ (number : ℕ) (refusal : 0 < number) where
 
   pub unrefused-three : (m : ℕ) → marks-fit m ≡ true → first (mark-tests number m) ≡ accepted → m ≡ 3
   unrefused-three m h e = let p = unrefused m e in three m h (p .0) (p .1)
+
+-- marks that agree in the first c entries
+pub marks-alike : (number : ℕ) (m l : ℕ → ℕ) (c : ℕ) → ((i : ℕ) → i < c → m i ≡ l i) → marks-tests number m c ≡ marks-tests number l c
+unfolding marks-tests
+marks-alike number m l zero e = refl
+marks-alike number m l (suc c) e =
+    ap₂ {A = List Test} {B = List Test} _++_ (marks-alike number m l c (λ i h. e i (omega arith))) (ap (mark-tests number) (e c (omega arith)))

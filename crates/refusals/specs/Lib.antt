@@ -122,6 +122,14 @@ store-full = 34
 abbrev pub block-damaged : ℕ
 block-damaged = 35
 
+-- the store's read refuses a needed entry, two highest rows differ, or the digests do not lead to the highest tail
+abbrev pub not-leading : ℕ
+not-leading = 36
+
+-- the roll passes 63 rows, a count 64 or the bundle its length
+abbrev pub bundle-too-large : ℕ
+bundle-too-large = 37
+
 -- rack of two
 abbrev pub rack-of-two : ℕ
 rack-of-two = 38

@@ -90,6 +90,12 @@ pub const STORE_FULL: u32 = 34;
 // No undamaged block answers, and the store holds a damaged one.
 pub const BLOCK_DAMAGED: u32 = 35;
 
+// The store's read refuses a needed entry, two highest rows differ, or the digests do not lead to the highest tail.
+pub const NOT_LEADING: u32 = 36;
+
+// The roll passes 63 rows, a count 64 or the bundle its length.
+pub const BUNDLE_TOO_LARGE: u32 = 37;
+
 // Rack of two.
 pub const RACK_OF_TWO: u32 = 38;
 

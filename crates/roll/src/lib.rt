@@ -16,4 +16,6 @@ pub use place::label_in;
 pub use place::tail_in;
 pub use read::read_roll;
 pub use test::is_roll;
+pub use write::put_roll;
+pub use write::roll_bytes;
 pub use write::write_roll;

@@ -24,6 +24,22 @@ fn put_blocks(count: u8, rows: &[u8], n: usize, area: &mut [u8])
     }
 }
 
+// How many bytes a roll is written in.
+pub fn roll_bytes(count: u8) -> usize
+    requires { ⌜ count ≤ most-rows ⌝ }
+    ensures { λ r. ⌜ r ≡ block-bytes * blocks count ⌝ }
+{
+    BLOCK * blocks(count)
+}
+
+// Puts a roll at the front of an area. Rows that are known to make a roll are not tested again.
+pub fn put_roll(count: u8, rows: &[u8], area: &mut [u8])
+    requires { ⌜ (count ≤ most-rows) × (length (now rows) ≡ table-bytes) × (block-bytes * blocks count ≤ length (now area)) ⌝ }
+    ensures { λ _. ⌜ now (area .exit) ≡ put (now (area .entry)) 0 (first-blocks count (now (rows .entry)) (blocks count)) ⌝ }
+{
+    put_blocks(count, rows, blocks(count), area);
+}
+
 // Writes the blocks of a roll at the front of the area, or refuses and changes nothing.
 pub fn write_roll(count: u8, rows: &[u8], area: &mut [u8]) -> Written
     ensures { λ r. ⌜ record { answer = r .answer; count = r .count; area = now (area .exit) } ≡ writing-roll count (now (rows .entry)) (now (area .entry)) ⌝ }

@@ -34,6 +34,9 @@ neither false q e = (refl, e)
 pub record Bundled (k : Lent) (previous own s : List ℕ) : Type 0 where
   pub was : k .head .status ≡ prepared
   pub fit : rows-fit (k .head .count) (k .table) ≡ true
+  pub old-holds : holds rack-layout previous ≡ true
+  pub own-holds : holds rack-layout own ≡ true
+  pub fits : bundle-fits (rack-size previous) (rack-size own) (k .head .count) s ≡ true
   pub old-is : k .head .previous ≡ rack-digest previous
   pub own-is : k .head .own ≡ rack-digest own
   pub olds : entries-fit (rack-size previous) (old-position s) (old-marks s) (old-count s) ≡ true
@@ -79,6 +82,9 @@ bundled size k previous own s e =
     record {
       was = r .0 .acts;
       fit = sound-rows (k .head) (k .table) (r .0 .sounds);
+      old-holds = not-false (holds rack-layout previous) (a .0);
+      own-holds = not-false (holds rack-layout own) (b .0);
+      fits = not-false (bundle-fits (rack-size previous) (rack-size own) (k .head .count) s) (d .0);
       old-is = racks .0;
       own-is = racks .1;
       olds = lists .0;

@@ -70,6 +70,23 @@ module _ (test : ℕ → Bool) where
       go earlier w false e false k p (yes m) = earlier (omega (arith, ltb-false (first-place test n) n e)) m
       go earlier w false e false k p (no m) = let u : i ≡ n = omega arith in rw u k
 
+  -- it holds of none before the first
+  pub first-earlier : (n i : ℕ) → i < first-place test n → test i ≡ false
+  unfolding first-place
+  first-earlier zero i l = absurd (not-suc-le-zero l)
+  first-earlier (suc n) i l = go (first-earlier n i) (first-within n) (ltb (first-place test n) n) refl (test n) refl l
+    where
+      go :
+          (i < first-place test n → test i ≡ false) → first-place test n ≤ n → (b : Bool) → ltb (first-place test n) n ≡ b → (t : Bool) → test n ≡ t
+          → i < cond b (first-place test n) (cond t n (suc n)) → test i ≡ false
+      go earlier w true e t k p = earlier p
+      go earlier w false e true k p = earlier (omega (arith, ltb-false (first-place test n) n e))
+      go earlier w false e false k p = case (decLt i n)
+        where
+          case : Dec (i < n) → test i ≡ false
+          case (yes m) = earlier (omega (arith, ltb-false (first-place test n) n e))
+          case (no m) = let u : i ≡ n = omega arith in rw u k
+
   -- the only place of which it holds
   pub first-only :
       (n p : ℕ) → p < n → test p ≡ true → ((i : ℕ) → i < n → (i ≡ p → ⊥) → test i ≡ false) → first-place test n ≡ p

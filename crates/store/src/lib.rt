@@ -8,6 +8,8 @@ pub use appending::mahqurith_store_append;
 pub use reading::mahqurith_store_read;
 use rows::LABEL;
 use rows::TAIL;
+pub use scan::first_answer;
+pub use scan::is_area;
 
 // The blocks of an area, at most.
 pub const MOST_BLOCKS: usize = 128;

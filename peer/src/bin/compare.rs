@@ -2,13 +2,14 @@
 
 use peer::broken::{SLIPS, SLIPS_OF_M_107};
 use peer::broken_companies::COMPANY_SLIPS;
+use peer::broken_maker::MAKER_SLIPS;
 use peer::broken_many::MANY_SLIPS;
 use peer::broken_store::STORE_SLIPS;
 use peer::party::{Party, Peer};
 use peer::trial::lists::LISTS;
 use peer::trial::pairing::{Numbers, Pairing};
 use peer::trial::prng::Prng;
-use peer::trial::{companies, history, hostile, layouts, many, numbers, order, pages, readings, records, store};
+use peer::trial::{companies, history, hostile, layouts, maker, many, numbers, order, pages, readings, records, store};
 use std::fmt::Debug;
 use std::process::ExitCode;
 use std::time::Instant;
@@ -73,7 +74,8 @@ fn party(name: &str) -> Option<Box<dyn Party>> {
         _ => named(SLIPS.into_iter().chain(SLIPS_OF_M_107), name)
             .or_else(|| named(MANY_SLIPS, name))
             .or_else(|| named(STORE_SLIPS, name))
-            .or_else(|| named(COMPANY_SLIPS, name)),
+            .or_else(|| named(COMPANY_SLIPS, name))
+            .or_else(|| named(MAKER_SLIPS, name)),
     }
 }
 
@@ -84,7 +86,7 @@ fn named<S: Party + Debug + 'static>(slips: impl IntoIterator<Item = S>, name: &
 }
 
 fn run_fixed(pairing: &mut Pairing, prng: &mut Prng) {
-    let fixed: [(&str, Trial); 9] = [
+    let fixed: [(&str, Trial); 10] = [
         ("numbers to try", numbers::run),
         ("readings", readings::run),
         ("order of refusals", order::run),
@@ -94,6 +96,7 @@ fn run_fixed(pairing: &mut Pairing, prng: &mut Prng) {
         ("append many", many::run),
         ("blocks of a night", pages::run),
         ("two companies", companies::run),
+        ("maker", maker::run),
     ];
     for (name, run) in fixed {
         let before = pairing.tally.calls;
@@ -104,7 +107,7 @@ fn run_fixed(pairing: &mut Pairing, prng: &mut Prng) {
 
 /// Goes on until so many calls are made with this seed. A history makes hundreds of calls, so the others get more turns.
 fn run_by_chance(pairing: &mut Pairing, prng: &mut Prng, calls: u64) {
-    let by_chance: [(&str, usize, Trial); 8] = [
+    let by_chance: [(&str, usize, Trial); 9] = [
         ("order", 60, order::run_any),
         ("records", 30, records::run_any),
         ("layouts", 60, layouts::run_any),
@@ -113,8 +116,9 @@ fn run_by_chance(pairing: &mut Pairing, prng: &mut Prng, calls: u64) {
         ("appends of many", 4, many::run_any),
         ("blocks of nights", 6, pages::run_any),
         ("pairs of runs", 2, companies::run_any),
+        ("makings", 6, maker::run_any),
     ];
-    let mut made = [0; 8];
+    let mut made = [0; 9];
     while pairing.calls_of_seed() < calls {
         for ((_, turns, run), count) in by_chance.iter().zip(&mut made) {
             let before = pairing.tally.calls;

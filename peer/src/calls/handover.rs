@@ -1,11 +1,12 @@
-//! This file holds what Activate and Bytes to check begin with: the racks, the bundle and its rolls.
+//! This file holds what Activate and Bytes to check begin with, the racks, the bundle and its rolls, and what Activate asks of the entries.
 
 use super::ask_sound;
 use crate::bundle::{self, Bundle};
 use crate::call::{Lent, Papers};
+use crate::marks::test_marks;
 use crate::rack::{self, Rack};
 use crate::record::PREPARED;
-use crate::refusals::{Refusal, NOT_PREPARED, OTHER_RACK};
+use crate::refusals::{Refusal, INITIALISE_NOT_VALID, NOT_PREPARED, NO_MAJORITY, OTHER_RACK, SIGNATURE_NOT_VALID};
 use crate::roll::Roll;
 use crate::rules::Rules;
 
@@ -33,4 +34,19 @@ pub fn open_handover<'a>(rules: &dyn Rules, lent: &Lent, papers: &'a Papers) -> 
     let bundle = bundle::read(rules, &papers.bundle, (previous.count, own.count), head.count)?;
     let rolls = bundle::old_rolls(&bundle)?;
     Ok(Handover { previous, own, bundle, rolls })
+}
+
+/// "16, then for each old entry 17, 18, for each new entry 17, 19", for the sizes of the previous and own rack.
+pub fn ask_entries(rules: &dyn Rules, sizes: (u8, u8), bundle: &Bundle) -> Result<(), Refusal> {
+    let (old, new) = (&bundle.old, &bundle.new);
+    if old.len() < rules.majority(sizes.0) || new.len() < rules.majority(sizes.1) {
+        return Err(NO_MAJORITY);
+    }
+    for entry in &old[..rules.tested_old(old.len())] {
+        test_marks(entry.marks, SIGNATURE_NOT_VALID)?;
+    }
+    for entry in new {
+        test_marks(entry.marks, INITIALISE_NOT_VALID)?;
+    }
+    Ok(())
 }

@@ -18,6 +18,7 @@ pub use append_and_read::append_and_read;
 pub use append_many::{append_many, one_more, ManyOf02, ManyRules, DIGEST, MOST_ENTRIES};
 pub use bytes_to_check::bytes_to_check;
 pub use finalise::finalise;
+pub use handover::ask_entries;
 pub use initialise::initialise;
 pub use new::new;
 pub use read::read;

@@ -25,6 +25,7 @@ pub const LISTS: &[(&str, &[Refusal])] = &[
     ("Verdict", &[6, 22, 23, 24, 16, 17, 18]),
     ("Store append", &[33, 2, 14, 11, 12, 34]),
     ("Store read", &[1, 2, 35, 10]),
+    ("Make bundle", &[2, 6, 22, 15, 16, 17, 18, 19, 36, 37, 1]),
     ("Write rack block", &[6, 1]),
     ("Write receipt", &[23, 1]),
 ];
@@ -65,6 +66,7 @@ fn name(call: &Call) -> &'static str {
         Call::Verdict(_) => "Verdict",
         Call::StoreAppend { .. } => "Store append",
         Call::StoreRead { .. } => "Store read",
+        Call::MakeBundle { .. } => "Make bundle",
         Call::WriteRackBlock { .. } => "Write rack block",
         Call::WriteReceipt(_) => "Write receipt",
     }

@@ -3,6 +3,7 @@
 use super::order_calls;
 use super::order_desk;
 use super::order_handover;
+use super::order_making;
 use super::order_report;
 use super::order_store;
 use super::pairing::Pairing;
@@ -41,6 +42,7 @@ pub fn plans() -> Vec<Plan> {
     plans.extend(order_desk::plans());
     plans.extend(order_store::plans());
     plans.extend(order_report::plans());
+    plans.extend(order_making::plans());
     plans
 }
 

@@ -11,8 +11,8 @@ use crate::roll::in_blocks;
 use crate::row::{appended, Row};
 
 const NOT_PREPARED: &[&str] = &["5 blank", "5 active", "5 finalised"];
-const PREVIOUS: &[&str] = &["6 previous empty", "6 previous n 0", "6 previous n 16", "6 previous same key"];
-const OWN: &[&str] = &["6 own empty", "6 own short", "6 own long", "6 own not rising"];
+pub const PREVIOUS: &[&str] = &["6 previous empty", "6 previous n 0", "6 previous n 16", "6 previous same key"];
+pub const OWN: &[&str] = &["6 own empty", "6 own short", "6 own long", "6 own not rising"];
 const OTHER_RACK: &[&str] = &["21 previous", "21 own"];
 const BUNDLE: &[&str] = &[
     "22 empty",
@@ -29,7 +29,7 @@ const BUNDLE: &[&str] = &[
     "22 new marks 64",
     "22 count 65",
 ];
-const ROLL: &[&str] = &["15 check", "15 count", "15 label zero", "15 two rolls"];
+pub const ROLL: &[&str] = &["15 check", "15 count", "15 label zero", "15 two rolls"];
 
 const ACTIVATE: &[&[&str]] = &[
     UNSOUND,
@@ -74,10 +74,11 @@ const BYTES_TO_CHECK: &[&[&str]] = &[
     &["22 no old entry", "22 no new entry", "22 far entry", "22 third list"],
 ];
 
+/// An entry that 16 took away can't be marked badly.
+pub const APART: &[(&str, &str)] =
+    &[("16 old", "17 old 2"), ("16 old", "18 old 2"), ("16 new", "17 new 1"), ("16 new", "19 new 1")];
+
 pub fn plans() -> Vec<Plan> {
-    // An entry that 16 took away can't be marked badly.
-    const APART: &[(&str, &str)] =
-        &[("16 old", "17 old 2"), ("16 old", "18 old 2"), ("16 new", "17 new 1"), ("16 new", "19 new 1")];
     vec![
         Plan { name: "Activate", steps: ACTIVATE, apart: APART, build: activate },
         Plan { name: "Bytes to check", steps: BYTES_TO_CHECK, apart: &[], build: bytes_to_check },
@@ -177,7 +178,7 @@ fn not_derived(prng: &mut Prng, damages: &Damages, scene: &mut Scene) {
     }
 }
 
-fn spoil_marks(damages: &Damages, scene: &mut Scene) {
+pub fn spoil_marks(damages: &Damages, scene: &mut Scene) {
     for name in damages.0 {
         match *name {
             "17 old 0" => scene.old[0].marks &= !1,
@@ -195,7 +196,7 @@ fn spoil_marks(damages: &Damages, scene: &mut Scene) {
     }
 }
 
-fn spoil_rolls(damages: &Damages, scene: &mut Scene) {
+pub fn spoil_rolls(damages: &Damages, scene: &mut Scene) {
     let part = &mut scene.old[1];
     let mut blocks = in_blocks(&part.rows);
     match () {
@@ -214,7 +215,7 @@ fn spoil_rolls(damages: &Damages, scene: &mut Scene) {
     part.blocks = Some(blocks);
 }
 
-fn spoil_lists(damages: &Damages, scene: &mut Scene) {
+pub fn spoil_lists(damages: &Damages, scene: &mut Scene) {
     if damages.has("16 old") {
         scene.old.pop();
     }

@@ -29,6 +29,8 @@ pub struct Tally {
     pub faults: u64,
     /// Those faults that are two accepted verdicts with different tails.
     pub demand_3: u64,
+    /// Bundles put to Activate in the search behind the maker's answers.
+    pub searched: u64,
     pub first_fault: Option<String>,
 }
 
@@ -125,7 +127,13 @@ impl<'a> Pairing<'a> {
         }
         let stays = match call {
             Call::StoreAppend { .. } => one_unused_block_changed(&before.area, &after.area) || reply.number() != 0,
-            _ => written <= after.area.len() && before.area[written..] == after.area[written..],
+            Call::MakeBundle { roll_area, .. } => {
+                let (roll_before, bundle_before) = before.area.split_at(*roll_area);
+                let (roll_after, bundle_after) = after.area.split_at(*roll_area);
+                let made = reply.made();
+                rest_stays(roll_before, roll_after, made.roll) && rest_stays(bundle_before, bundle_after, made.bundle)
+            }
+            _ => rest_stays(&before.area, &after.area, written),
         };
         if !stays {
             let what = "more or less of the area changed than the bytes written, or the store's block";
@@ -162,6 +170,11 @@ impl<'a> Pairing<'a> {
             self.told = Instant::now();
         }
     }
+}
+
+/// The bytes after those written are as they were.
+fn rest_stays(before: &[u8], after: &[u8], written: usize) -> bool {
+    written <= after.len() && before[written..] == after[written..]
 }
 
 /// M-104: the store appends "into the first unused block" and writes nothing else.

@@ -76,6 +76,11 @@ impl Shelf {
         })
     }
 
+    /// The first undamaged block that has both.
+    pub fn answering(&self, label: &[u8; 16], height: u64) -> Option<&Said> {
+        self.used().find(|said| said.label == *label && said.height == height)
+    }
+
     /// Greatest height of a label and the tail there; of two blocks at it the first one's.
     pub fn newest(&self, label: &[u8; 16]) -> (u64, [u8; 32]) {
         let of_label = self.used().filter(|said| said.label == *label);
@@ -121,7 +126,7 @@ impl Shelf {
 
     /// Asks for the block and holds answer and output to what M-104 names.
     pub fn read(&self, pairing: &mut Pairing, label: [u8; 16], height: u64) -> Refusal {
-        let first = self.used().find(|said| said.label == label && said.height == height);
+        let first = self.answering(&label, height);
         let number = match first {
             _ if !self.is_of_size() => 2,
             Some(_) => 0,

@@ -14,10 +14,10 @@ use Rattle.rows.proofs.Tables.{each-next, each-fails, each-of}
 use Rattle.roll.specs.Roll.{Roll}
 use Rattle.rules.specs.Bundle.{old-count, list-at, list-of}
 use Rattle.rules.specs.Derivation.{some, roll-of, roll-derived, kept-by-some}
-use Rattle.rules.proofs.Somes.{some-more}
+use Rattle.rules.proofs.Somes.{some-more, each-same}
 use Rattle.rules.proofs.Derived.{rows-decide}
 use Rattle.handover.specs.Asked.{roll-held, keeps, flag}
-use Rattle.handover.proofs.Kept.{each-same, not-derived}
+use Rattle.handover.proofs.Kept.{not-derived}
 use Rattle.handover.proofs.Descents.{led-on, nowhere-led, somewhere-led}
 use Rattle.handover.proofs.Places.{new-lies}
 use Rattle.handover.proofs.descent.derived.Statement.{statement}

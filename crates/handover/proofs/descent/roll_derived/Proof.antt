@@ -18,13 +18,13 @@ use Rattle.roll.specs.Places.{Spread}
 use Rattle.roll.proofs.Spreads.{roll-spread}
 use Rattle.rules.specs.Bundle.{old-count, two-byte, list-at, list-of, added, digests}
 use Rattle.rules.specs.Derivation.{roll-of}
-use Rattle.bundle.proofs.Places.{digests-part}
+use Rattle.bundle.proofs.Places.{digests-part, list-below}
 use Rattle.derivation.specs.Walk.{is-next, after, passed, met, derived-from}
 use Rattle.derivation.proofs.Walks.{next-is, passed-next, passed-within}
 use Rattle.handover.specs.Asked.{flag}
 use Rattle.handover.proofs.Kept.{Noted-to, noted-none, noted-next}
 use Rattle.handover.proofs.Descents.{walked, keeps-next, led-nowhere, led-on, old-fit, step-fails, end-fails, walk-leads, walk-keeps}
-use Rattle.handover.proofs.Places.{list-step, digests-count, list-below, list-begins, list-lies, old-lies}
+use Rattle.handover.proofs.Places.{list-step, digests-count, list-begins, list-lies, old-lies}
 use Rattle.handover.proofs.descent.roll_derived.Statement.{statement}
 use Rattle.handover.proofs.descent.roll_derived.Tie as tie
 

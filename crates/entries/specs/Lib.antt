@@ -1,0 +1,2 @@
+-- What Activate and the maker both ask of a bundle's entries.
+pub mod Asked
