@@ -108,6 +108,17 @@ def text_turned(text, rows, own):
     return "".join(out)
 
 
+def brought(text):
+    """The names that a file has from a library: they stay there."""
+    own = {line.split(":")[0] for line in open("crates.txt", encoding="utf-8") if ":" in line}
+    names = set()
+    for m in re.finditer(r"\buse ([^\s;{]+)\.\{([^}]*)\}", text):
+        steps = m[1].split(".")
+        if steps[0] != "Rattle" or steps[1] not in own:
+            names.update(item.strip().split(" as ")[0] for item in m[2].split(","))
+    return names
+
+
 def clashes(path, text, rows, own):
     """Names that would fall together in a file: a word that is there already in the new spelling, and two old words of one new spelling."""
     words = set(WORD.findall(QUIET.sub(" ", text)))
@@ -130,7 +141,7 @@ def main(argv):
     count = 0
     for path in list(sources()) + sorted(glob.glob("crates/*/src/**/*.rt", recursive=True)):
         text = open(path, encoding="utf-8").read()
-        own = local.get(path, {})
+        own = dict(local.get(path, {})) | {name: name for name in brought(text)}
         for where, old, to in clashes(path, text, rows, own):
             print("look:", where, old, to)
         to = text_turned(text, rows, own)

@@ -1,6 +1,6 @@
 -- Laws of what each test of a string decides of its being a bundle: a place past the end, like a part that does not fit, rules it out. Assumes nothing.
 use mathlib.Core.Path.{◌≡◌, refl, sym, ◌∙◌}
-use mathlib.Core.Bool.{Bool, true, false, ◌&&◌, and_false}
+use mathlib.Core.Bool.{Bool, true, false, ◌&&◌, and-false}
 use mathlib.Core.List.{List}
 use Prim.Native.Nat.{ℕ, ◌+◌, ◌*◌, ◌<◌, ◌≤◌}
 use native.Mathlib.Omega.{arith}
@@ -56,9 +56,9 @@ module _ (n : ℕ) (s : List ℕ) (i at low : ℕ) (placed : at ≡ old_at s i) 
       (λ lost. fails inside entered _ lost
       (λ past.
       let f = le-ltb (new_at s) (length s) (omega (arith, old_before_new s i h, ltb-false (old_at s i + 2) (length s) past)) in
-      rw f (and_false (olds n s)))
+      rw f (and-false (olds n s)))
       (λ _ bad. rw (one_fails n (old_position s) (old_marks s) (old_count s) i h bad)))
-      (λ _ bad. rw (each_fails (blocks_fit s) (old_count s) i h bad, and_false all))
+      (λ _ bad. rw (each_fails (blocks_fit s) (old_count s) i h bad, and-false all))
 
   pub old_kept : old_asked s n low at ≡ true → OldKept n s i
   unfolding blocks_fit inside entered
@@ -87,7 +87,7 @@ module _ (s : List ℕ) (j at : ℕ) (placed : at ≡ list_at s j) where
       fails (ltb (list_at s j + 1) (length s)) (added_fits s j) _ (sym listed ∙ e)
       (λ past.
       let f = unended s count (omega (arith, list_ends s j count h, ltb-false (list_at s j + 1) (length s) past)) in
-      rw f (and_false (each (added_fits s) count)))
+      rw f (and-false (each (added_fits s) count)))
       (λ _ bad. rw (each_fails (added_fits s) count j h bad))
 
   pub list_kept : list_asked s at ≡ true → ListKept s j
@@ -111,7 +111,7 @@ module _ (n m rows : ℕ) (s : List ℕ) where
   past_end h =
       let last = rows * old_count s in
       let f = unended s last (omega (arith, list_later s 0 last (omega arith))) in
-      rw f (and_false (leb (length s) longest_bundle && olds n s && news m s && each (added_fits s) last))
+      rw f (and-false (leb (length s) longest_bundle && olds n s && news m s && each (added_fits s) last))
 
   pub empty : length s ≡ 0 → bundle_fits n m rows s ≡ false
   empty e = past_end (omega (arith, new_before_lists s 0))

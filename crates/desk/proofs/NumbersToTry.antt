@@ -1,6 +1,6 @@
 -- 01, "Numbers to try", marked P, as far as they speak of the verdict. Assumes nothing.
 use mathlib.Core.Path.{◌≡◌}
-use mathlib.Core.Bool.{true, false, and_false}
+use mathlib.Core.Bool.{true, false, and-false}
 use mathlib.Core.List.{List, [], ◌∷◌}
 use Prim.Native.Nat.{ℕ, ◌<◌}
 use native.Mathlib.Omega.{arith}
@@ -16,7 +16,7 @@ module _ (q : Question) (s : List ℕ) (is_rack : holds rack_layout q.rack ≡ t
   -- "signer positions 1, 1: 22", whatever the marks and the statement
   pub listed_twice : (m n : ℕ) → judging q s (1 ∷ m ∷ 1 ∷ n ∷ []) ≡ nothing_shown 22
   unfolding first goes_up entry_fits entries_fit signers_fit verdict_refusal judging
-  listed_twice m n = rw (is_rack, of_three, and_false)
+  listed_twice m n = rw (is_rack, of_three, and-false)
 
   -- the statement that was asked for
   module _ (answers : is_asked_for q s ≡ true) (fresh : has_other_nonce q s ≡ false) where

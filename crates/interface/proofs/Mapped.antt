@@ -1,6 +1,6 @@
 -- A function on every element of a list: a loop's turns, and zeros. Assumes nothing.
 use mathlib.Core.Path.{◌≡◌, refl, ap, ap₂, sym, ◌∙◌}
-use mathlib.Core.List.{List, [], ◌∷◌, ◌++◌, map, map_append}
+use mathlib.Core.List.{List, [], ◌∷◌, ◌++◌, map, map-append}
 use Prim.Native.Nat.{ℕ, zero, suc, ◌+◌, ◌<◌}
 use native.Mathlib.Numerals.{add-one}
 use lib.ListN.{length, get_or, take, set, replicate}
@@ -13,7 +13,7 @@ module _ {A B : Type 0} (f : A → B) where
       → take (i + 1) (set ys i v) ≡ map f (take (i + 1) xs)
   mapped_next xs ys i d v h k e q =
       ap (λ (j : ℕ). take j (set ys i v)) (add-one i) ∙ take-suc-set ys i v k ∙ ap₂ (λ (l : List B) (x : B). l ++ (x ∷ [])) e q
-      ∙ sym (ap (λ (j : ℕ). map f (take j xs)) (add-one i) ∙ ap (map f) (take-suc xs i d h) ∙ map_append f (take i xs) (get_or xs i d ∷ []))
+      ∙ sym (ap (λ (j : ℕ). map f (take j xs)) (add-one i) ∙ ap (map f) (take-suc xs i d h) ∙ map-append f (take i xs) (get_or xs i d ∷ []))
 
   pub mapped_same : (n : ℕ) (x : A) → map f (replicate n x) ≡ replicate n (f x)
   mapped_same zero x = refl

@@ -1,7 +1,7 @@
 -- Laws of a list of entries: by the lowest position that may come next, one entry more, one that does not fit, what a list has that does, and two lists that
 -- agree. Assumes nothing.
 use mathlib.Core.Path.{◌≡◌, refl, sym, ap, ap₂}
-use mathlib.Core.Bool.{true, false, ◌&&◌, and_false}
+use mathlib.Core.Bool.{true, false, ◌&&◌, and-false}
 use Prim.Native.Nat.{ℕ, zero, suc, ◌+◌, ◌<◌, ◌≤◌}
 use native.Mathlib.Decide.{dec_lt}
 use native.Mathlib.Nat.{not-suc-le-zero}
@@ -47,7 +47,7 @@ module _ (n : ℕ) (position marks : ℕ → ℕ) where
       go earlier (yes l) = rw (earlier l)
       go earlier (no g) =
           let e : i ≡ c = omega arith in
-          let f : entry_fits n position marks c ≡ false = rw e at k in rw f (and_false (entries_fit n position marks c))
+          let f : entry_fits n position marks c ≡ false = rw e at k in rw f (and-false (entries_fit n position marks c))
 
   -- each entry of a list that fits
   pub fits_each : (c i : ℕ) → i < c → entries_fit n position marks c ≡ true → entry_fits n position marks i ≡ true

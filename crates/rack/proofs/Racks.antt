@@ -1,6 +1,6 @@
 -- Racks written and cut: their lengths, their places, and the tests by which a string is known to be one. Assumes nothing.
 use mathlib.Core.Path.{◌≡◌, refl, sym, ap, ◌∙◌}
-use mathlib.Core.Bool.{Bool, true, false, ◌&&◌, and-true, and_false}
+use mathlib.Core.Bool.{Bool, true, false, ◌&&◌, and-true, and-false}
 use mathlib.Core.List.{List, ◌∷◌, ◌++◌, flatten}
 use Prim.Native.Nat.{ℕ, ◌+◌, ◌*◌, ◌-◌, ◌≤◌}
 use native.Mathlib.Omega.{arith}
@@ -103,7 +103,7 @@ module _ (s : List ℕ) where
       joined false b e k f g h = refl
       joined true false e k f g h = refl
       joined true true true k f g h = rw (f refl refl, g refl refl) (and-true (k && true) ∙ and-true k)
-      joined true true false k {z} f g h = rw (h refl refl) (and_false (k && z))
+      joined true true false k {z} f g h = rw (h refl refl) (and-false (k && z))
 
 -- what the first test tells
 module _ (s : List ℕ) (h : rack_long s ≡ true) where

@@ -1,5 +1,5 @@
 -- `octets::compare::is_same` meets its contract. Assumes nothing.
-use mathlib.Core.Bool.{Bool, ◌&&◌, and_false, and-true}
+use mathlib.Core.Bool.{Bool, ◌&&◌, and-false, and-true}
 use mathlib.Core.Logic.{⊎_elim}
 use mathlib.Core.Path.{◌≡◌, sym, ap, ◌∙◌}
 use Prim.Native.Nat.{◌+◌, ◌-◌}
@@ -44,7 +44,7 @@ loop_again c =
     let rest = same (drop (l.i + 1) a) (drop (l.i + 1) b) in
     let step = l.invariant.1 ∙ ap (λ (p : Bool). l.all && p) (same_step a b l.i (omega arith) (omega arith)) in
     ⊎_elim
-    (λ w. (l.invariant.0, step ∙ ap (λ (p : Bool). l.all && (p && rest)) (ne_eqb _ _ w.0.taken) ∙ and_false l.all ∙ sym (ap (λ (p : Bool). p && rest) w.1)))
+    (λ w. (l.invariant.0, step ∙ ap (λ (p : Bool). l.all && (p && rest)) (ne_eqb _ _ w.0.taken) ∙ and-false l.all ∙ sym (ap (λ (p : Bool). p && rest) w.1)))
     (λ w. (l.invariant.0, step ∙ ap (λ (p : Bool). l.all && (p && rest)) (eq-eqb _ _ w.0.left) ∙ sym (ap (λ (p : Bool). p && rest) w.1)))
     c.if2.branch
 
