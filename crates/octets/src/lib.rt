@@ -1,4 +1,6 @@
 // Strings of bytes: the one way to copy them, to compare them, to read and write numbers in them, and to answer where one is taken apart or written.
+#![tactic(auto)]
+
 mod cleared;
 mod compare;
 mod copy;
