@@ -41,7 +41,7 @@ fn unordered(expected: u64, height: u64) -> u32
 }
 
 // What an append tells: its answer and head, and the number of the row that moves on, or 0 where the call is refused.
-#[derive(Drop)]
+#[derive(Clone, Copy)]
 pub struct Moved {
     pub told: Told,
     pub place: usize,

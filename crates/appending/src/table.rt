@@ -19,7 +19,7 @@ pub fn move_row(table: &mut [u8], i: usize, tail: [u8; 32], height: u64)
 }
 
 // What a row shows after an entry.
-#[derive(Drop)]
+#[derive(Clone, Copy)]
 pub struct Shown {
     pub tail: [u8; 32],
     pub height: u64,

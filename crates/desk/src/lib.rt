@@ -6,7 +6,7 @@ pub use judging::{height_in, verdict, verdict_with};
 
 // What the desk may show: 0 with the tail and the height, or a refusal and zeros.
 #[repr(C)]
-#[derive(Drop)]
+#[derive(Clone, Copy)]
 pub struct Finding {
     pub number: u32,
     pub tail: [u8; 32],

@@ -10,7 +10,7 @@ use rows::LABEL;
 
 // What a desk asked.
 #[repr(C)]
-#[derive(Drop)]
+#[derive(Clone, Copy)]
 pub struct Question {
     pub identity: [u8; DIGEST],
     pub label: [u8; LABEL],
@@ -20,7 +20,7 @@ pub struct Question {
 
 // The answer of a writing, and how many bytes of the area were written.
 #[repr(C)]
-#[derive(Drop)]
+#[derive(Clone, Copy)]
 pub struct Written {
     pub number: u32,
     pub written: usize,

@@ -1,4 +1,6 @@
 // SHA-256 of FIPS 180-4, for inputs of 0 to 65,536 bytes.
+#![tactic(auto)]
+
 mod chunk;
 mod constants;
 mod ending;

@@ -8,7 +8,7 @@ use crate::word::{ch, maj, upper_sigma_0, upper_sigma_1};
 use std::num::wrapping_add_u32;
 
 // The eight working variables.
-#[derive(Drop)]
+#[derive(Clone, Copy)]
 pub struct Working {
     pub a: u32,
     pub b: u32,

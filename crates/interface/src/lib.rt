@@ -21,14 +21,14 @@ use table::Row;
 pub const NONCE: usize = 2 * NUMBER;
 
 #[repr(C)]
-#[derive(Drop)]
+#[derive(Clone, Copy)]
 pub struct Key {
     pub bytes: [u8; KEY_BYTES],
 }
 
 // A rack taken apart: how many keys, and the fifteen places, of which the first so many are keys.
 #[repr(C)]
-#[derive(Drop)]
+#[derive(Clone, Copy)]
 pub struct Rack {
     pub count: u8,
     pub keys: [Key; rack::MOST],
@@ -36,7 +36,7 @@ pub struct Rack {
 
 // A roll taken apart: how many rows, and the 63 places, of which the first so many are rows.
 #[repr(C)]
-#[derive(Drop)]
+#[derive(Clone, Copy)]
 pub struct Roll {
     pub count: u8,
     pub rows: [Row; rows::MOST],
@@ -44,7 +44,7 @@ pub struct Roll {
 
 // A statement; the fields that its kind has not are zero.
 #[repr(C)]
-#[derive(Drop)]
+#[derive(Clone, Copy)]
 pub struct Plain {
     pub kind: u8,
     pub identity: [u8; DIGEST],
@@ -59,21 +59,21 @@ pub struct Plain {
 
 // The answer of a reading, and the contents: zeros where the answer is a refusal.
 #[repr(C)]
-#[derive(Drop)]
+#[derive(Clone, Copy)]
 pub struct RackRead {
     pub number: u32,
     pub rack: Rack,
 }
 
 #[repr(C)]
-#[derive(Drop)]
+#[derive(Clone, Copy)]
 pub struct RollRead {
     pub number: u32,
     pub roll: Roll,
 }
 
 #[repr(C)]
-#[derive(Drop)]
+#[derive(Clone, Copy)]
 pub struct StatementRead {
     pub number: u32,
     pub statement: Plain,
@@ -81,7 +81,7 @@ pub struct StatementRead {
 
 // The answer of a writing, and how many bytes of the area were written.
 #[repr(C)]
-#[derive(Drop)]
+#[derive(Clone, Copy)]
 pub struct Written {
     pub number: u32,
     pub written: usize,
@@ -89,7 +89,7 @@ pub struct Written {
 
 // What a desk asks.
 #[repr(C)]
-#[derive(Drop)]
+#[derive(Clone, Copy)]
 pub struct Question {
     pub identity: [u8; DIGEST],
     pub label: [u8; LABEL],

@@ -10,7 +10,7 @@ use rows::Found;
 use rules::Head;
 
 // What a call finds out first: the first refusal and 0, or 0 and the number of the ledger's row, or of the row that it gets.
-#[derive(Drop)]
+#[derive(Clone, Copy)]
 pub struct Sought {
     pub number: u32,
     pub place: usize,

@@ -2,7 +2,7 @@
 use rows::TAIL;
 
 // Height and tail of the highest old row of a label; zeros for a label that no old roll has.
-#[derive(Drop)]
+#[derive(Clone, Copy)]
 pub struct Highest {
     pub height: u64,
     pub tail: [u8; TAIL],
@@ -10,7 +10,7 @@ pub struct Highest {
 
 // What a call answers: 0 and the bytes written into the area of the roll and into that of the bundle, or a refusal.
 #[repr(C)]
-#[derive(Drop)]
+#[derive(Clone, Copy)]
 pub struct Made {
     pub number: u32,
     pub roll: usize,

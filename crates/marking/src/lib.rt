@@ -11,7 +11,7 @@ pub const NEW: u8 = 1;
 
 // An answer, and the position of an entry: zero where the answer is a refusal.
 #[repr(C)]
-#[derive(Drop)]
+#[derive(Clone, Copy)]
 pub struct Position {
     pub number: u32,
     pub position: u8,

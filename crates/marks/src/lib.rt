@@ -1,4 +1,6 @@
 // The marks byte: what the key chip found of a key and of its signature.
+#![tactic(auto)]
+
 mod entries;
 
 ghost use Rattle.std.specs.Prelude.{◌≡◌};

@@ -30,7 +30,7 @@ const MOST_PIECES: u64 = 72057594037927936;
 const TOLD_AFTER: u64 = 1024;
 
 // A night as far as it is read.
-#[derive(Drop)]
+#[derive(Clone, Copy)]
 struct Told {
     night: Night,
     stands: u8,

@@ -16,7 +16,7 @@ pub const MOST_LABELS: usize = 63;
 pub const LONGEST_RACK: usize = 1 + KEY_BYTES * MOST;
 
 // The line of a label: how many of its receipts were accepted and refused, and the highest accepted height, 0 where none was accepted.
-#[derive(Drop)]
+#[derive(Clone, Copy)]
 pub struct Line {
     pub label: [u8; LABEL],
     pub accepted: u64,
@@ -25,7 +25,7 @@ pub struct Line {
 }
 
 // How many blocks there were, and what those were that have no line.
-#[derive(Drop)]
+#[derive(Clone, Copy)]
 pub struct Totals {
     pub blocks: u64,
     pub racks: u64,
@@ -34,7 +34,7 @@ pub struct Totals {
 }
 
 // The nearest undamaged rack before, by its size and its digest; the size is 0 where there is none.
-#[derive(Drop)]
+#[derive(Clone, Copy)]
 pub struct Nearest {
     pub rack: [u8; LONGEST_RACK],
     pub size: usize,
@@ -42,7 +42,7 @@ pub struct Nearest {
 }
 
 // A night as far as its blocks are counted: the first so many lines are those of the known labels.
-#[derive(Drop)]
+#[derive(Clone, Copy)]
 pub struct Night {
     pub totals: Totals,
     pub known: usize,

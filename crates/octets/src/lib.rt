@@ -12,14 +12,14 @@ pub use copy::copy_at;
 pub use number::{number_at, put_number, put_word, word_at};
 
 // An answer, and how many parts were read.
-#[derive(Drop)]
+#[derive(Clone, Copy)]
 pub struct Counted {
     pub answer: u32,
     pub count: u8,
 }
 
 // An answer, and how many bytes were written.
-#[derive(Drop)]
+#[derive(Clone, Copy)]
 pub struct Written {
     pub answer: u32,
     pub count: usize,

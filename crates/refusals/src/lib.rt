@@ -1,4 +1,5 @@
 // The answers of every call: 0 on acceptance, otherwise the refusal's number in document 01's table or in a request of document 02.
+#![tactic(auto)]
 
 // The call is accepted.
 pub const ACCEPTED: u32 = 0;

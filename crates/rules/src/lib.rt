@@ -2,7 +2,7 @@
 
 // A keeper's head. Identity and digests are zero until they are set.
 #[repr(C)]
-#[derive(Drop)]
+#[derive(Clone, Copy)]
 pub struct Head {
     pub status: u8,
     pub count: u8,
@@ -15,7 +15,7 @@ pub struct Head {
 
 // What a call answers: 0 and the number of bytes written, or a refusal; with 11 the present height; whether a finalise is a repeat.
 #[repr(C)]
-#[derive(Drop)]
+#[derive(Clone, Copy)]
 pub struct Answer {
     pub number: u32,
     pub written: usize,
@@ -24,7 +24,7 @@ pub struct Answer {
 }
 
 // The answer, and the head as the call leaves it.
-#[derive(Drop)]
+#[derive(Clone, Copy)]
 pub struct Told {
     pub answer: Answer,
     pub head: Head,

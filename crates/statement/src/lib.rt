@@ -21,7 +21,7 @@ use octets::Written;
 use put::put_statement;
 
 // The last part of a statement, which depends on its kind. Blank is no statement.
-#[derive(Drop)]
+#[derive(Clone, Copy)]
 pub enum Kind {
     Blank,
     New,
@@ -39,7 +39,7 @@ pub enum Kind {
 
 // A parsed statement; the fields that its kind has not are zero. The other rack is the next one of a finalise statement, the previous one of an
 // initialise statement.
-#[derive(Drop)]
+#[derive(Clone, Copy)]
 pub struct Statement {
     pub kind: Kind,
     pub identity: [u8; DIGEST],
@@ -51,7 +51,7 @@ pub struct Statement {
 }
 
 // The answer of a reading, and the statement: the blank one where the answer is a refusal.
-#[derive(Drop)]
+#[derive(Clone, Copy)]
 pub struct Reading {
     pub answer: u32,
     pub statement: Statement,

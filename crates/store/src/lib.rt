@@ -13,7 +13,7 @@ pub use scan::{first_answer, is_area};
 pub const MOST_BLOCKS: usize = 128;
 
 // Height and tail of a label's first block of greatest height; zeros for a label that the store has not.
-#[derive(Drop)]
+#[derive(Clone, Copy)]
 pub struct Newest {
     pub height: u64,
     pub tail: [u8; TAIL],
@@ -21,7 +21,7 @@ pub struct Newest {
 
 // What is asked: a label, and the height to append at or to read.
 #[repr(C)]
-#[derive(Drop)]
+#[derive(Clone, Copy)]
 pub struct Place {
     pub label: [u8; LABEL],
     pub height: u64,
@@ -29,7 +29,7 @@ pub struct Place {
 
 // What a call answers. Fields that an answer does not name are zero.
 #[repr(C)]
-#[derive(Drop)]
+#[derive(Clone, Copy)]
 pub struct Answer {
     pub number: u32,
     pub written: usize,

@@ -15,7 +15,7 @@ use rules::{Answer, Head};
 
 // A ledger's row.
 #[repr(C)]
-#[derive(Drop)]
+#[derive(Clone, Copy)]
 pub struct Row {
     pub label: [u8; LABEL],
     pub tail: [u8; TAIL],
@@ -23,7 +23,7 @@ pub struct Row {
 }
 
 // What a call leaves beside the table's bytes: its answer, the head, whether that is another one, and from which row to before which one the table is.
-#[derive(Drop)]
+#[derive(Clone, Copy)]
 pub struct Left {
     pub answer: Answer,
     pub head: Head,
@@ -34,7 +34,7 @@ pub struct Left {
 
 // What a keeper is asked, at fixed sizes; each call reads what it needs.
 #[repr(C)]
-#[derive(Drop)]
+#[derive(Clone, Copy)]
 pub struct Asked {
     pub key: [u8; 32],
     pub identity: [u8; 32],

@@ -49,7 +49,7 @@ fn prepared(
 }
 
 // What the founded keeper of key 1 leaves to the rack of key 2: its identity, and its roll of no rows.
-#[derive(Drop)]
+#[derive(Clone, Copy)]
 struct Legacy {
     identity: [u8; 32],
     roll: [u8; BLOCK],

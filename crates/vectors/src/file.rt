@@ -7,7 +7,7 @@ use crate::{messages, monte, outcome};
 // The longest of the files has 426,209 bytes.
 const ROOM: usize = 524288;
 
-#[derive(Drop)]
+#[derive(Clone, Copy)]
 pub enum Vectors {
     Short,
     Long,

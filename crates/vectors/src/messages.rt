@@ -8,7 +8,7 @@ use crate::place::Place;
 use crate::{digest, outcome, place};
 
 // The messages of a file: how many, the bytes of the first, and how many bytes each has more than the one before it.
-#[derive(Drop)]
+#[derive(Clone, Copy)]
 pub struct Messages {
     count: u32,
     first: u32,

@@ -3,13 +3,13 @@ use crate::place;
 use crate::place::Place;
 
 // Where a vector ends in its text, and whether the library made its digest.
-#[derive(Drop)]
+#[derive(Clone, Copy)]
 pub struct Checked {
     pub place: Place,
     pub same: bool,
 }
 
-#[derive(Drop)]
+#[derive(Clone, Copy)]
 pub enum Outcome {
     Missing,
     // The number of the line that is not as it must be.
@@ -18,7 +18,7 @@ pub enum Outcome {
 }
 
 // What a file adds to the totals.
-#[derive(Drop)]
+#[derive(Clone, Copy)]
 pub struct Counts {
     pub run: u32,
     pub differ: u32,

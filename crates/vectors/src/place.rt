@@ -1,7 +1,7 @@
 // How far a text is as it must be: each step goes past what must stand next.
 ghost use Rattle.std.specs.Prelude.{◌+◌, ◌≤◌, max, length};
 
-#[derive(Drop)]
+#[derive(Clone, Copy)]
 pub enum Place {
     // All is as it must be up to this byte.
     At(usize),
