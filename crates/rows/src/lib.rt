@@ -1,4 +1,6 @@
 // A ledger's row, the table of rows, the search in it, and the digests of both. Rows stand one behind the other in a string of bytes.
+#![tactic(auto)]
+
 mod digest;
 mod parts;
 mod row;
