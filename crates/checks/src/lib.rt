@@ -1,4 +1,6 @@
 // Blocks of 512 bytes that end in document 01's check: what rolls, the cabinet store and the morning report share.
+#![tactic(auto)]
+
 ghost use Rattle.std.specs.Prelude.{◌≡◌, ◌≤◌, length};
 ghost use Rattle.hash.specs.Promise.{longest};
 ghost use Rattle.hash.specs.Sha256.{sha256};

@@ -1,4 +1,6 @@
 // Racks: read, written, digested, and what their keys are asked for.
+#![tactic(auto)]
+
 mod digest;
 mod keys;
 mod numbers;
