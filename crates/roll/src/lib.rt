@@ -1,4 +1,6 @@
 // A roll as it travels, in blocks of 512 bytes: read, written, and refused where the layout is broken.
+#![tactic(auto)]
+
 mod block;
 mod digest;
 mod gather;

@@ -1,4 +1,6 @@
 // Statements: the record that they are read into and written from, and the two calls.
+#![tactic(auto)]
+
 mod cut;
 mod fits;
 mod handing;
