@@ -2,7 +2,6 @@
 use mathlib.Core.List.{List}
 use denote.Laws.{Is}
 use denote.Struct.Declared.{row}
-use lib.ListN.{length-map}
 use Rattle.statement.specs.declared.Kind.{Kind}
 use Rattle.statement.specs.declared.Kind.TheVariants.{Blank, New, Append, Read, Finalise, Initialise}
 use Rattle.statement.specs.declared.Statement.{Statement}
@@ -24,12 +23,12 @@ pub arrays : (v : Statement) (vs : List Val) → Is (row T.the_type) v vs → Ar
 arrays v vs g =
     let a = g.1.1.1 in
     record {
-      identity = simp length-map at a.0.1.0.1;
-      own = simp length-map at a.1.0.1.0.1;
-      label = simp length-map at a.1.1.0.1.0.1;
-      tail = simp length-map at a.1.1.1.0.1.0.1;
-      other = simp length-map at a.1.1.1.1.0.1.0.1;
-      roll = simp length-map at a.1.1.1.1.1.0.1.0.1;
+      identity = a.0.1.0.1;
+      own = a.1.0.1.0.1;
+      label = a.1.1.0.1.0.1;
+      tail = a.1.1.1.0.1.0.1;
+      other = a.1.1.1.1.0.1.0.1;
+      roll = a.1.1.1.1.1.0.1.0.1;
     }
 
 pub shaped : (v : Statement) (vs : List Val) → Is (row T.the_type) v vs → Shaped v

@@ -18,7 +18,7 @@ unfolding reading
 returns-then-fits c =
     let s = c.args.s.now in
     let h : holds statement_layout s ≡ true =
-    holds_is s (λ i. (c.shared_slice_known-1.given i).fits) ∙ ap statement_fits (sym c.cut-statement.ensures) ∙ sym c.fits2.ensures ∙ c.if-fits.true in
+    holds_is s (λ i. (c.shared_slice_known-1.given i).fits) ∙ ap statement_fits (sym c.cut-statement.ensures) ∙ sym c.fits.ensures ∙ c.if-fits.true in
     rw h (ap (answered accepted) c.cut-statement.ensures)
 
 pub returns : goal.returns
@@ -26,5 +26,5 @@ unfolding reading
 returns c =
     let s = c.args.s.now in
     let h : holds statement_layout s ≡ false =
-    holds_is s (λ i. (c.shared_slice_known-1.given i).fits) ∙ ap statement_fits (sym c.cut-statement.ensures) ∙ sym c.fits2.ensures ∙ c.if-fits.false in
+    holds_is s (λ i. (c.shared_slice_known-1.given i).fits) ∙ ap statement_fits (sym c.cut-statement.ensures) ∙ sym c.fits.ensures ∙ c.if-fits.false in
     rw h (ap (answered statement_not_asked) c.blank-none.ensures)

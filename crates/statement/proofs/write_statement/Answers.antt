@@ -20,7 +20,7 @@ wrote n area = record { answer = accepted; count = n; area = area }
 
 -- past the first test the statement fits, so that its kind says how long it is
 fit : (c : Else-not-fits) → statement_fits c.args.v ≡ true
-fit c = sym c.fits2.ensures ∙ c.if-not-fits.false
+fit c = sym c.fits.ensures ∙ c.if-not-fits.false
 
 sized : (c : Else-not-fits) → length (statement_written c.args.v) ≡ size c.args.v.kind
 sized c = let o = c in written_length o.args.v (arrays o.args.v _ o.well_formed.0) (fits_kind o.args.v (fit c))
@@ -28,7 +28,7 @@ sized c = let o = c in written_length o.args.v (arrays o.args.v _ o.well_formed.
 pub returns-then-not-fits : goal.returns-then-not-fits
 unfolding writing unwritten
 returns-then-not-fits c =
-    let f : statement_fits c.args.v ≡ false = sym c.fits2.ensures ∙ c.if-not-fits.true in
+    let f : statement_fits c.args.v ≡ false = sym c.fits.ensures ∙ c.if-not-fits.true in
     rw f
 
 pub returns-then-area-size : goal.returns-then-area-size
@@ -36,18 +36,18 @@ unfolding writing unwritten
 returns-then-area-size c =
     let a = c.args in
     let t : ltb (length a.area.now) (length (statement_written a.v)) ≡ true =
-    lt-ltb (length a.area.now) (length (statement_written a.v)) (omega (arith, c.if-area-size.true, c.type_size.ensures, sized (goal.at.returns-then-area-size c).Else-not-fits)) in
+    lt-ltb (length a.area.now) (length (statement_written a.v)) (omega (arith, c.if-area-size.true, c.size_of-size.ensures, sized (goal.at.returns-then-area-size c).Else-not-fits)) in
     rw (fit (goal.at.returns-then-area-size c).Else-not-fits, t)
 
 pub put_statement-requires : goal.put_statement-requires
-put_statement-requires c = omega (arith, sized (goal.at.put_statement-requires c).Else-not-fits, c.if-area-size.false, c.type_size.ensures)
+put_statement-requires c = omega (arith, sized (goal.at.put_statement-requires c).Else-not-fits, c.if-area-size.false, c.size_of-size.ensures)
 
 pub returns : goal.returns
 unfolding writing unwritten
 returns c =
     let a = c.args in
     let d = c in
-    let n : d.type_size.result ≡ length (statement_written a.v) = d.type_size.ensures ∙ sym (sized (goal.at.returns c).Else-not-fits) in
+    let n : d.size_of-size.result ≡ length (statement_written a.v) = d.size_of-size.ensures ∙ sym (sized (goal.at.returns c).Else-not-fits) in
     let t : ltb (length a.area.now) (length (statement_written a.v)) ≡ false =
     le-ltb (length a.area.now) (length (statement_written a.v)) (omega (arith, c.if-area-size.false)) in
     rw (fit (goal.at.returns c).Else-not-fits, t) (ap₂ wrote n c.put_statement.ensures)

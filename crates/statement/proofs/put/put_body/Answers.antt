@@ -8,60 +8,60 @@ use Rattle.statement.proofs.put.put_body.Goals as goal
 
 pub put_receipt-requires : goal.put_receipt-requires
 unfolding body
-put_receipt-requires c = let o = c in body_fits o.args.v o.args.area.now _ c.enum_told-in-New-1.given.1 o.requires
+put_receipt-requires c = let o = c in body_fits o.args.v o.args.area.now _ c.in-New.is o.requires
 
 pub put_receipt-requires-in-Append : goal.put_receipt-requires-in-Append
 unfolding body
-put_receipt-requires-in-Append c = let o = c in body_fits o.args.v o.args.area.now _ c.kind-1.given.1 o.requires
+put_receipt-requires-in-Append c = let o = c in body_fits o.args.v o.args.area.now _ c.in-Append.is o.requires
 
 pub put_read-requires : goal.put_read-requires
-put_read-requires c = let o = c in body_fits o.args.v o.args.area.now _ c.kind-in-Read-1.given.1 o.requires
+put_read-requires c = let o = c in body_fits o.args.v o.args.area.now _ c.in-Read.is o.requires
 
 pub put_three-requires : goal.put_three-requires
 unfolding body
 put_three-requires c =
     let o = c in
     let v = o.args.v in
-    omega (arith, three_lengths first_place v.own v.other v.roll (body_fits o.args.v o.args.area.now _ c.enum_told-in-Finalise-1.given.1 o.requires))
+    omega (arith, three_lengths first_place v.own v.other v.roll (body_fits o.args.v o.args.area.now _ c.in-Finalise.is o.requires))
 
 pub put_three-requires-in-Initialise : goal.put_three-requires-in-Initialise
 unfolding body
 put_three-requires-in-Initialise c =
     let o = c in
     let v = o.args.v in
-    omega (arith, three_lengths first_place v.other v.own v.roll (body_fits o.args.v o.args.area.now _ c.enum_told-in-Initialise-1.given.1 o.requires))
+    omega (arith, three_lengths first_place v.other v.own v.roll (body_fits o.args.v o.args.area.now _ c.in-Initialise.is o.requires))
 
 pub returns-in-Blank : goal.returns-in-Blank
 unfolding body
 returns-in-Blank c =
     let o = c in
-    body-put o.args.v o.args.area.now _ c.enum_told-1.given.1 (sym (put_nil o.args.area.now first_place))
+    body-put o.args.v o.args.area.now _ c.in-Blank.is (sym (put_nil o.args.area.now first_place))
 
 pub returns-in-New : goal.returns-in-New
 unfolding body
 returns-in-New c =
     let o = c in
-    body-put o.args.v o.args.area.now _ c.enum_told-in-New-1.given.1 c.put_receipt.ensures
+    body-put o.args.v o.args.area.now _ c.in-New.is c.put_receipt.ensures
 
 pub returns-in-Append : goal.returns-in-Append
 unfolding body
 returns-in-Append c =
     let o = c in
-    body-put o.args.v o.args.area.now _ c.kind-1.given.1 c.put_receipt-in-Append.ensures
+    body-put o.args.v o.args.area.now _ c.in-Append.is c.put_receipt-in-Append.ensures
 
 pub returns-in-Read : goal.returns-in-Read
 returns-in-Read c =
     let o = c in
-    body-put o.args.v o.args.area.now _ c.kind-in-Read-1.given.1 c.put_read.ensures
+    body-put o.args.v o.args.area.now _ c.in-Read.is c.put_read.ensures
 
 pub returns-in-Finalise : goal.returns-in-Finalise
 unfolding body
 returns-in-Finalise c =
     let o = c in
-    body-put o.args.v o.args.area.now _ c.enum_told-in-Finalise-1.given.1 c.put_three.ensures
+    body-put o.args.v o.args.area.now _ c.in-Finalise.is c.put_three.ensures
 
 pub returns-in-Initialise : goal.returns-in-Initialise
 unfolding body
 returns-in-Initialise c =
     let o = c in
-    body-put o.args.v o.args.area.now _ c.enum_told-in-Initialise-1.given.1 c.put_three-in-Initialise.ensures
+    body-put o.args.v o.args.area.now _ c.in-Initialise.is c.put_three-in-Initialise.ensures

@@ -19,13 +19,13 @@ pub put_number-requires : goal.put_number-requires
 put_number-requires c =
     let o = c in
     let a = arrays o.args.v _ o.well_formed.0 in
-    omega (arith, read_end o.args.v a o.args.height o.args.high o.args.low, c.put_receipt.auto.1.1.0)
+    omega (arith, read_end o.args.v a o.args.height o.args.high o.args.low, c.put_receipt.auto.area)
 
 pub put_number-requires-2 : goal.put_number-requires-2
 put_number-requires-2 c =
     let o = c in
     let a = arrays o.args.v _ o.well_formed.0 in
-    omega (arith, read_end o.args.v a o.args.height o.args.high o.args.low, c.put_receipt.auto.1.1.0, c.put_number.auto.0)
+    omega (arith, read_end o.args.v a o.args.height o.args.high o.args.low, c.put_receipt.auto.area, c.put_number.auto.s)
 
 pub returns : goal.returns
 returns c =

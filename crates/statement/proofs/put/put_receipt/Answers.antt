@@ -19,7 +19,7 @@ pub put_number-requires : goal.put_number-requires
 put_number-requires c =
     let o = c in
     let a = arrays o.args.v _ o.well_formed.0 in
-    omega (arith, receipt_end o.args.v a o.args.height, o.requires, c.put_three.auto.0)
+    omega (arith, receipt_end o.args.v a o.args.height, o.requires, c.put_three.auto.area)
 
 pub returns : goal.returns
 returns c =

@@ -25,7 +25,7 @@ copy_at-requires c = simp length-set (omega (arith, front (goal.at.copy_at-requi
 pub put_body-requires : goal.put_body-requires
 put_body-requires c =
     let o = (goal.at.put_body-requires c).Start in
-    omega (arith, front o, (arrays o.args.v _ o.well_formed.0).identity, c.copy_at.auto.0, length-set o.args.area.now 0 c.kind_number.result)
+    omega (arith, front o, (arrays o.args.v _ o.well_formed.0).identity, c.copy_at.auto.dst, length-set o.args.area.now 0 c.kind_number.result)
 
 pub shape_of-area : goal.shape_of-area
 shape_of-area c =
