@@ -34,7 +34,7 @@ impl Place {
             return self;
         };
         let digits = part(text, at, 2 * bytes.len());
-        if hex::decode(digits, bytes) {
+        if hexes::decode(digits, bytes) {
             Place::At(at + digits.len())
         } else {
             Place::Damaged(at)

@@ -1,6 +1,8 @@
 // Hexadecimal text: the value of a digit, and the bytes that a run of digits spells.
+#![tactic(auto)]
+
 ghost use Rattle.std.specs.Prelude.{◌≡◌, true};
-ghost use Rattle.hex.specs.Digits.{digitValue, Spelled};
+ghost use Rattle.hexes.specs.Digits.{digitValue, Spelled};
 
 const FOREIGN: u8 = 16;
 
