@@ -3,6 +3,9 @@ ghost use Rattle.io.specs.Counts.{IsPrefixLen};
 
 use crate::outcome::Outcome;
 use crate::{messages, monte, outcome};
+use std::fs;
+use std::io::Read;
+use std::rt::Files;
 
 // The longest of the files has 426,209 bytes.
 const ROOM: usize = 524288;
@@ -14,33 +17,39 @@ pub enum Vectors {
     Monte,
 }
 
-pub fn run(name: &[u8], vectors: Vectors) -> Outcome {
-    let fd = os::open_read(name);
-    if fd < 0 {
+pub fn run(rt: &impl Files, name: &str, vectors: Vectors) -> Outcome {
+    let Ok(mut file) = fs::open(rt, name) else {
         return Outcome::Missing;
-    }
+    };
     let mut room = [0u8; ROOM];
-    let size = fill(fd, &mut room);
-    let is_whole = is_at_end(fd);
-    libc::close(fd);
-    if is_whole {
+    let size = fill(&mut file, &mut room);
+    if is_at_end(&mut file) {
         run_text(&room[..size], vectors)
     } else {
         outcome::damaged(&room[..size], size)
     }
 }
 
+// Reads until the room is full, the file ends or a read fails, and answers how many bytes it put at the room's start.
 // A reference to the array: one to a slice would have the check compute with all of its bytes.
-fn fill(fd: i32, room: &mut [u8; ROOM]) -> usize
+fn fill(file: &mut impl Read, room: &mut [u8; ROOM]) -> usize
     ensures { IsPrefixLen result room.new }
 {
-    io::read_full(fd, room)
+    let mut done = 0;
+    while done < ROOM {
+        let n = file.read(&mut room[done..]).unwrap_or(0);
+        if n == 0 {
+            break;
+        }
+        done += n;
+    }
+    done
 }
 
 // Where a read failed or the room was too small, the next read does not answer 0.
-fn is_at_end(fd: i32) -> bool {
+fn is_at_end(file: &mut impl Read) -> bool {
     let mut next = [0u8; 1];
-    libc::read(fd, &mut next) == 0
+    matches!(file.read(&mut next), Ok(0))
 }
 
 fn run_text(text: &[u8], vectors: Vectors) -> Outcome {
