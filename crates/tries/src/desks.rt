@@ -6,6 +6,7 @@ use desk::Finding;
 use rows::TABLE;
 use rules::Head;
 use statement::RECEIPT_SIZE;
+use std::io::Result;
 
 // The number of the kind append.
 const APPEND: u8 = 2;
@@ -27,15 +28,15 @@ fn judge(head: Head, rack: &[u8; THREE], receipt: &[u8; RECEIPT_SIZE], signers: 
 }
 
 // Signers by position and marks; the marks say that the key is attested and its signature valid.
-pub fn signers() {
+pub fn signers(rt: &impl Print) -> Result<()> {
     let twice = verdict(&[1, 3, 1, 3]);
-    say::numbered(b"rack of 3, signer positions 1, 1", twice.number as u64);
+    say::numbered(rt, b"rack of 3, signer positions 1, 1", twice.number as u64)?;
     let one = verdict(&[1, 3]);
-    say::numbered(b"one valid signer", one.number as u64);
+    say::numbered(rt, b"one valid signer", one.number as u64)?;
     let two = verdict(&[0, 3, 1, 3]);
-    say::text(b"two valid signers: ");
-    say::number(two.number as u64);
-    say::text(b" with height ");
-    say::number(two.height);
-    say::text(b"\n");
+    say::text(rt, b"two valid signers: ")?;
+    say::number(rt, two.number as u64)?;
+    say::text(rt, b" with height ")?;
+    say::number(rt, two.height)?;
+    say::text(rt, b"\n")
 }

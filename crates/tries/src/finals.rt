@@ -4,6 +4,7 @@ use crate::people::rack_of_one;
 use crate::say;
 use rows::TABLE;
 use rules::{Head, Told};
+use std::io::Result;
 
 // The bytes of a finalise statement and of the longest roll.
 pub const AREA: usize = 3713;
@@ -17,19 +18,20 @@ fn is_same(a: &[u8; AREA], b: &[u8; AREA]) -> bool {
     octets::is_same(a, b)
 }
 
-pub fn twice() {
+pub fn twice(rt: &impl Print) -> Result<()> {
     let mut table = [0u8; TABLE];
     let head = founded(&mut table, &rack_of_one(1));
     let mut first = [0u8; AREA];
     let once = finalise(head, &table, 2, &mut first);
     let mut second = [0u8; AREA];
     let again = finalise(once.head, &table, 3, &mut second);
-    say::text(b"second finalise naming another rack: ");
-    say::number(again.answer.number as u64);
-    say::either(again.answer.repeat, b", a repeat", b", no repeat");
+    say::text(rt, b"second finalise naming another rack: ")?;
+    say::number(rt, again.answer.number as u64)?;
+    say::either(rt, again.answer.repeat, b", a repeat", b", no repeat")?;
     say::either(
+        rt,
         is_same(&first, &second),
         b", the same bytes\n",
         b", other bytes\n",
-    );
+    )
 }

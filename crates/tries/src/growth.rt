@@ -5,6 +5,7 @@ use crate::say;
 use rows::{LABEL, TABLE, TAIL, TOP};
 use rules::{Answer, Head};
 use statement::RECEIPT_SIZE;
+use std::io::Result;
 
 // Where the first row has its height.
 const HEIGHT_PLACE: usize = LABEL + TAIL;
@@ -14,23 +15,23 @@ fn append(head: Head, table: &mut [u8; TABLE], expected: u64) -> Answer {
     enter(head, table, expected, &mut receipt)
 }
 
-pub fn on_blank() {
+pub fn on_blank(rt: &impl Print) -> Result<()> {
     let mut table = [0u8; TABLE];
     let head = woken(&mut table, 1);
     let answer = append(head, &mut table, 1);
-    say::answered(b"append on a blank keeper", answer);
+    say::answered(rt, b"append on a blank keeper", answer)
 }
 
-pub fn made_again() {
+pub fn made_again(rt: &impl Print) -> Result<()> {
     let mut table = [0u8; TABLE];
     let one = lent(&mut table, 0);
     let again = make(one, &mut table, 1);
-    say::answered(b"new of an existing label", again.answer);
+    say::answered(rt, b"new of an existing label", again.answer)?;
     let all = full(&mut table);
     let among = make(all, &mut table, 1);
-    say::text(b"new of an existing label, with ");
-    say::number(all.count as u64);
-    say::answered(b" rows", among.answer);
+    say::text(rt, b"new of an existing label, with ")?;
+    say::number(rt, all.count as u64)?;
+    say::answered(rt, b" rows", among.answer)
 }
 
 // The keeper of key 1 with ledger 1, which a lent table has at a height.
@@ -44,36 +45,36 @@ fn height_of(table: &[u8; TABLE]) -> u64 {
     octets::number_at(table, HEIGHT_PLACE)
 }
 
-pub fn heights() {
-    expecting(0, 2);
-    expecting_next();
-    expecting(TOP, 4294967296);
-    expecting(TOP, 5);
+pub fn heights(rt: &impl Print) -> Result<()> {
+    expecting(rt, 0, 2)?;
+    expecting_next(rt)?;
+    expecting(rt, TOP, 4294967296)?;
+    expecting(rt, TOP, 5)
 }
 
-fn say_height(table: &[u8; TABLE], expected: u64) {
-    say::text(b"height ");
-    say::number(height_of(table));
-    say::text(b", expected ");
-    say::number(expected);
+fn say_height(rt: &impl Print, table: &[u8; TABLE], expected: u64) -> Result<()> {
+    say::text(rt, b"height ")?;
+    say::number(rt, height_of(table))?;
+    say::text(rt, b", expected ")?;
+    say::number(rt, expected)
 }
 
-fn expecting(height: u64, expected: u64) {
+fn expecting(rt: &impl Print, height: u64, expected: u64) -> Result<()> {
     let mut table = [0u8; TABLE];
     let head = lent(&mut table, height);
-    say_height(&table, expected);
+    say_height(rt, &table, expected)?;
     let answer = append(head, &mut table, expected);
-    say::answered(b"", answer);
+    say::answered(rt, b"", answer)
 }
 
-fn expecting_next() {
+fn expecting_next(rt: &impl Print) -> Result<()> {
     let mut table = [0u8; TABLE];
     let head = lent(&mut table, 0);
-    say_height(&table, 1);
+    say_height(rt, &table, 1)?;
     let answer = append(head, &mut table, 1);
-    say::text(b": ");
-    say::number(answer.number as u64);
-    say::text(b", and the row is at ");
-    say::number(height_of(&table));
-    say::text(b"\n");
+    say::text(rt, b": ")?;
+    say::number(rt, answer.number as u64)?;
+    say::text(rt, b", and the row is at ")?;
+    say::number(rt, height_of(&table))?;
+    say::text(rt, b"\n")
 }

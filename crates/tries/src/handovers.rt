@@ -9,6 +9,7 @@ use crate::say;
 use rows::TABLE;
 use rules::{Answer, Head, Told};
 use statement::HANDOVER_SIZE;
+use std::io::Result;
 
 // What stands before an old entry's block: how many old entries, a position, marks and how many blocks.
 const OLD_HEAD: usize = 4;
@@ -79,13 +80,13 @@ fn roll_behind(words: &[u8]) -> [u8; BLOCK]
     roll
 }
 
-pub fn roll_alone() {
+pub fn roll_alone(rt: &impl Print) -> Result<()> {
     let legacy = left();
     let identity = legacy.identity;
     let roll = legacy.roll;
     let mut table = [0u8; TABLE];
     let told = prepared(&mut table, identity, &roll, b"");
-    say::answered(b"roll without previous rack", told.answer);
+    say::answered(rt, b"roll without previous rack", told.answer)
 }
 
 // The bundle of an old entry with a roll of one block and of a new entry, both attested and with valid signatures.
@@ -129,7 +130,7 @@ fn activated(identity: [u8; 32], roll: &[u8; BLOCK], previous: &[u8], bundle: &[
 }
 
 // A roll of one row is to come from a roll of none, beside one that has the row and alone.
-pub fn lacking() {
+pub fn lacking(rt: &impl Print) -> Result<()> {
     let legacy = left();
     let identity = legacy.identity;
     let none = legacy.roll;
@@ -138,20 +139,22 @@ pub fn lacking() {
     let roll = rolled(keeper.count, &rows);
     let beside = activated(identity, &roll, &rack_of_three(), &both(&none, &roll));
     say::answered(
+        rt,
         b"an old roll lacking one of our ledgers, which another has",
         beside,
-    );
+    )?;
     let alone = activated(identity, &roll, &rack_of_one(1), &listed(&none));
     say::answered(
+        rt,
         b"an old roll lacking one of our ledgers, which no other has",
         alone,
-    );
+    )
 }
 
-pub fn empty() {
+pub fn empty(rt: &impl Print) -> Result<()> {
     let legacy = left();
     let identity = legacy.identity;
     let roll = legacy.roll;
     let answer = activated(identity, &roll, &rack_of_one(1), &bundled(&roll));
-    say::answered(b"an empty roll hands over to an empty roll", answer);
+    say::answered(rt, b"an empty roll hands over to an empty roll", answer)
 }

@@ -4,6 +4,7 @@ use crate::people::{KEY, SIXTEEN, rack_of_one, sixteen_keys};
 use crate::say;
 use rack::MOST;
 use rows::TABLE;
+use std::io::Result;
 
 // The bytes of a block, and of the longest roll.
 pub const BLOCK: usize = 512;
@@ -13,41 +14,41 @@ const ROLL: usize = 7 * BLOCK;
 // The bytes of a rack of fifteen.
 const FIFTEEN: usize = 1 + MOST * KEY;
 
-pub fn majorities() {
-    majority(1);
-    majority(2);
-    majority(3);
-    majority(4);
-    majority(15);
+pub fn majorities(rt: &impl Print) -> Result<()> {
+    majority(rt, 1)?;
+    majority(rt, 2)?;
+    majority(rt, 3)?;
+    majority(rt, 4)?;
+    majority(rt, 15)
 }
 
-fn majority(n: u8) {
-    say::text(b"majority of ");
-    say::number(n as u64);
-    say::numbered(b"", rack::majority(n) as u64);
+fn majority(rt: &impl Print, n: u8) -> Result<()> {
+    say::text(rt, b"majority of ")?;
+    say::number(rt, n as u64)?;
+    say::numbered(rt, b"", rack::majority(n) as u64)
 }
 
-pub fn blocks() {
-    blocks_of(0);
-    blocks_of(9);
-    blocks_of(10);
+pub fn blocks(rt: &impl Print) -> Result<()> {
+    blocks_of(rt, 0)?;
+    blocks_of(rt, 9)?;
+    blocks_of(rt, 10)?;
     let mut table = [0u8; TABLE];
     let head = full(&mut table);
-    blocks_for(head.count, &table);
+    blocks_for(rt, head.count, &table)
 }
 
 // The keeper of key 1 has made so many ledgers.
-fn blocks_of(count: u8) {
+fn blocks_of(rt: &impl Print, count: u8) -> Result<()> {
     let mut table = [0u8; TABLE];
     let head = with_ledgers(founded(&mut table, &rack_of_one(1)), &mut table, 0, count);
-    blocks_for(head.count, &table);
+    blocks_for(rt, head.count, &table)
 }
 
-fn blocks_for(count: u8, table: &[u8; TABLE]) {
+fn blocks_for(rt: &impl Print, count: u8, table: &[u8; TABLE]) -> Result<()> {
     let mut area = [0u8; ROLL];
-    say::text(b"blocks for ");
-    say::number(count as u64);
-    say::numbered(b" rows", blocks_written(count, table, &mut area) as u64);
+    say::text(rt, b"blocks for ")?;
+    say::number(rt, count as u64)?;
+    say::numbered(rt, b" rows", blocks_written(count, table, &mut area) as u64)
 }
 
 fn blocks_written(count: u8, table: &[u8; TABLE], area: &mut [u8; ROLL]) -> usize {
@@ -55,15 +56,15 @@ fn blocks_written(count: u8, table: &[u8; TABLE], area: &mut [u8; ROLL]) -> usiz
     written.count / BLOCK
 }
 
-pub fn racks() {
-    say::numbered(b"a rack with n = 0", answer_to(&[0u8; 1]) as u64);
+pub fn racks(rt: &impl Print) -> Result<()> {
+    say::numbered(rt, b"a rack with n = 0", answer_to(&[0u8; 1]) as u64)?;
     let mut rack = [0u8; SIXTEEN];
     sixteen_keys(&mut rack, 16);
-    say::numbered(b"a rack with n = 16", answer_to_sixteen(&rack) as u64);
+    say::numbered(rt, b"a rack with n = 16", answer_to_sixteen(&rack) as u64)?;
     sixteen_keys(&mut rack, 15);
-    say::text(b"a rack of 15: ");
-    say::number(bytes_of_fifteen(rack) as u64);
-    say::text(b" bytes\n");
+    say::text(rt, b"a rack of 15: ")?;
+    say::number(rt, bytes_of_fifteen(rack) as u64)?;
+    say::text(rt, b" bytes\n")
 }
 
 // What reading a rack answers.

@@ -10,19 +10,21 @@ mod pairs;
 mod people;
 mod say;
 
-fn main() {
-    layouts::majorities();
-    layouts::blocks();
-    layouts::racks();
-    growth::on_blank();
-    growth::made_again();
-    growth::heights();
-    finals::twice();
-    desks::signers();
-    handovers::roll_alone();
-    handovers::lacking();
-    handovers::empty();
-    pairs::refused();
-    companies::limits();
-    companies::full_table();
+use std::io::Result;
+
+fn main(rt: HostRuntime) -> Result<()> {
+    layouts::majorities(&rt)?;
+    layouts::blocks(&rt)?;
+    layouts::racks(&rt)?;
+    growth::on_blank(&rt)?;
+    growth::made_again(&rt)?;
+    growth::heights(&rt)?;
+    finals::twice(&rt)?;
+    desks::signers(&rt)?;
+    handovers::roll_alone(&rt)?;
+    handovers::lacking(&rt)?;
+    handovers::empty(&rt)?;
+    pairs::refused(&rt)?;
+    companies::limits(&rt)?;
+    companies::full_table(&rt)
 }

@@ -1,40 +1,41 @@
 // What is written: a line for each case, with what the calls answered.
-use libc::STDOUT_FILENO;
 use rules::Answer;
+use std::io;
+use std::io::{Result, Write};
 
-pub fn text(bytes: &[u8]) {
-    io::write_all(STDOUT_FILENO, bytes);
+pub fn text(rt: &impl Print, bytes: &[u8]) -> Result<()> {
+    io::writer(rt).write_all(bytes)
 }
 
-pub fn number(n: u64) {
-    io::print_decimal(STDOUT_FILENO, n);
+pub fn number(rt: &impl Print, n: u64) -> Result<()> {
+    print!(rt; "{n}")
 }
 
 // The first of two texts where a fact holds, otherwise the second.
-pub fn either(holds: bool, first: &[u8], second: &[u8]) {
+pub fn either(rt: &impl Print, holds: bool, first: &[u8], second: &[u8]) -> Result<()> {
     if holds {
-        text(first);
+        text(rt, first)
     } else {
-        text(second);
+        text(rt, second)
     }
 }
 
 // A case whose answer is a number.
-pub fn numbered(case: &[u8], n: u64) {
-    text(case);
-    text(b": ");
-    number(n);
-    text(b"\n");
+pub fn numbered(rt: &impl Print, case: &[u8], n: u64) -> Result<()> {
+    text(rt, case)?;
+    text(rt, b": ")?;
+    number(rt, n)?;
+    text(rt, b"\n")
 }
 
 // A case whose answer is a call's, with the height that 11 gives.
-pub fn answered(case: &[u8], answer: Answer) {
-    text(case);
-    text(b": ");
-    number(answer.number as u64);
+pub fn answered(rt: &impl Print, case: &[u8], answer: Answer) -> Result<()> {
+    text(rt, case)?;
+    text(rt, b": ")?;
+    number(rt, answer.number as u64)?;
     if answer.number == refusals::OUT_OF_ORDER {
-        text(b" with ");
-        number(answer.height);
+        text(rt, b" with ")?;
+        number(rt, answer.height)?;
     }
-    text(b"\n");
+    text(rt, b"\n")
 }

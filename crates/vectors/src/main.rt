@@ -23,6 +23,6 @@ fn main(rt: HostRuntime) -> Result<()> {
 
 fn run(rt: &(impl Files + Print), name: &str, vectors: Vectors) -> Result<Outcome> {
     let outcome = file::run(rt, name, vectors);
-    report::file(rt, name, outcome)?;
+    report::file(rt, name.as_bytes(), outcome)?;
     Ok(outcome)
 }

@@ -1,24 +1,25 @@
 // What is written: a line for each file, and a closing line.
 use crate::outcome::Outcome;
-use std::io::Result;
+use std::io;
+use std::io::{Result, Write};
 
-pub fn file(rt: &impl Print, name: &str, outcome: Outcome) -> Result<()> {
+pub fn file(rt: &impl Print, name: &[u8], outcome: Outcome) -> Result<()> {
     text(rt, name)?;
     match outcome {
-        Outcome::Missing => text(rt, ": missing")?,
+        Outcome::Missing => text(rt, b": missing")?,
         Outcome::Damaged(line) => {
-            text(rt, ": damaged at line ")?;
+            text(rt, b": damaged at line ")?;
             number(rt, line)?;
         }
         Outcome::Ran { run, differ } => {
-            text(rt, ": ")?;
+            text(rt, b": ")?;
             number(rt, run as u64)?;
-            text(rt, " run, ")?;
+            text(rt, b" run, ")?;
             number(rt, differ as u64)?;
-            text(rt, " differ")?;
+            text(rt, b" differ")?;
         }
     }
-    text(rt, "\n")
+    text(rt, b"\n")
 }
 
 pub fn closing(rt: &impl Print, short: Outcome, long: Outcome, monte: Outcome) -> Result<()> {
@@ -26,19 +27,19 @@ pub fn closing(rt: &impl Print, short: Outcome, long: Outcome, monte: Outcome) -
     let b = long.counts();
     let c = monte.counts();
     number(rt, sum(a.run, b.run, c.run))?;
-    text(rt, " vectors run, ")?;
+    text(rt, b" vectors run, ")?;
     number(rt, sum(a.differ, b.differ, c.differ))?;
-    text(rt, " differ, ")?;
+    text(rt, b" differ, ")?;
     number(rt, sum(a.damaged, b.damaged, c.damaged))?;
-    text(rt, " files damaged\n")
+    text(rt, b" files damaged\n")
 }
 
 fn sum(a: u32, b: u32, c: u32) -> u64 {
     a as u64 + b as u64 + c as u64
 }
 
-fn text(rt: &impl Print, text: &str) -> Result<()> {
-    print!(rt; "{text}")
+fn text(rt: &impl Print, bytes: &[u8]) -> Result<()> {
+    io::writer(rt).write_all(bytes)
 }
 
 fn number(rt: &impl Print, n: u64) -> Result<()> {
