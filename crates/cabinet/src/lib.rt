@@ -1,4 +1,6 @@
 // A block of the cabinet store of document 02, M-104: whether it is damaged, and one made.
+#![tactic(auto)]
+
 mod block;
 
 pub use block::{is_damaged, is_sound, made_block};

@@ -1,4 +1,5 @@
 // What a keeper keeps and what its calls answer. The rules of the calls are in specs/.
+#![tactic(auto)]
 
 // A keeper's head. Identity and digests are zero until they are set.
 #[repr(C)]
