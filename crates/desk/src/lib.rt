@@ -1,4 +1,6 @@
 // The desk's verdict: whether a rack's signers vouch for a ledger's tail and height.
+#![tactic(auto)]
+
 mod asking;
 mod judging;
 
