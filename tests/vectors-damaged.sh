@@ -1,16 +1,16 @@
 #!/bin/bash
 # Runs the program `vectors` on damaged copies of its files, and holds what it writes to what it must say of each.
-# To be run once `rt check` has built target/bin/vectors. One line a case; the status is 0 only where every case passed.
+# To be run once `rt ci`, or `rt run` in crates/vectors, has built it. One line a case; the status is 0 only where every case passed.
 set -u
 
 root=$(cd "$(dirname "$0")/.." && pwd)
-program=$root/target/bin/vectors
+program=$root/crates/vectors/out/vectors
 data=$root/crates/vectors/data
 short=SHA256ShortMsg.rsp
 long=SHA256LongMsg.rsp
 monte=SHA256Monte.rsp
 
-[ -x "$program" ] || { echo "target/bin/vectors is not built: run rt check first"; exit 2; }
+[ -x "$program" ] || { echo "crates/vectors/out/vectors is not built: run rt ci first"; exit 2; }
 work=$(mktemp -d)
 trap 'rm -rf "$work"' EXIT
 cd "$work" || exit 2
