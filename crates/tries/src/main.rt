@@ -1,4 +1,6 @@
 // Makes the calls of document 01's "Numbers to try" and of the cases that 02 adds, and says of each what they answered.
+#![tactic(auto)]
+
 mod companies;
 mod desks;
 mod finals;
