@@ -1,4 +1,5 @@
 // A keeper's record: whether it is sound, what a call asks of it first, the answers of calls, and Wake.
+#![tactic(auto)]
 
 mod answers;
 mod giving;

@@ -1,9 +1,7 @@
--- `record::giving::give` meets its contract. Assumes nothing.
 use mathlib.Core.Path.{◌≡◌, ap, ◌∙◌}
 use mathlib.Core.Bool.{false}
 use native.Mathlib.Omega.{arith}
 use borrow.Author.Tests.{le-ltb}
-use borrow.Author.Rules.{rules}
 use lib.ListN.{length}
 use lib.Dec.{ltb}
 use Rattle.octets.specs.Strings.{put}
@@ -14,24 +12,14 @@ use Rattle.octets.specs.Layouts.{Written, writing}
 use Rattle.statement.specs.Kinds.{size}
 use Rattle.statement.proofs.Records.{fits_kind, written_length}
 use Rattle.statement.proofs.Types.{arrays}
-use Rattle.record.proofs.giving.give.Statement.{statement}
-use Rattle.record.proofs.giving.give.Tie as tie
+use Rattle.record.proofs.giving.give.Goals as goal
 
-write_statement_requires : tie.Need-write-statement-requires
-write_statement_requires c κs = search rules
-
-same_length : tie.Need-same-length
-same_length c = search rules
-
-returns : tie.Need-returns
+pub returns : goal.returns
 unfolding writing
 returns c =
-    let entry = c.before.before.before.before.before in
+    let entry = c in
     let v = entry.args.v in
-    let l : length (statement_written v) ≡ size v.kind = written_length v (arrays v _ entry.well-formed.0) (fits_kind v entry.requires.0) in
+    let l : length (statement_written v) ≡ size v.kind = written_length v (arrays v _ entry.well_formed.0) (fits_kind v entry.requires.0) in
     let t : ltb (length entry.args.area.now) (length (statement_written v)) ≡ false = le-ltb (length entry.args.area.now) (length (statement_written v)) (omega (arith, entry.requires.1)) in
     let w : (writing statement_layout statement_not_asked v entry.args.area.now).area ≡ put entry.args.area.now 0 (statement_written v) = rw (entry.requires.0, t) in
-    ap (λ (x : Written). x.area) c.before.before.write-statement.ensures ∙ w
-
-pub give_spec : {M : Type 1} → statement M
-give_spec = tie.close (tie.spec write_statement_requires same_length returns)
+    ap (λ (x : Written). x.area) c.write_statement-written.ensures ∙ w
