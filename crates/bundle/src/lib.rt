@@ -1,4 +1,6 @@
 // Handover bundles: whether a string is one, where its parts stand, and the refusals of its marks.
+#![tactic(auto)]
+
 mod fitting;
 mod marked;
 mod parts;

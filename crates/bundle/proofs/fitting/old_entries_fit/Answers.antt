@@ -1,0 +1,75 @@
+use mathlib.Core.Path.{◌≡◌, refl, sym, ap, ◌∙◌}
+use mathlib.Core.Bool.{true}
+use Prim.Native.Nat.{ℕ, ◌+◌}
+use lib.ListN.{length}
+use lib.Dec.{ltb}
+use Rattle.marks.specs.Entries.{entries_fit}
+use Rattle.marks.proofs.Listed.{lowest, lowest_next, one_more}
+use Rattle.rows.specs.Table.{each}
+use Rattle.rows.proofs.Tables.{each_next}
+use Rattle.rules.specs.Bundle.{byte, old_count, old_at, old_position, old_marks, blocks_fit, new_at}
+use Rattle.bundle.proofs.Places.{old_step}
+use Rattle.bundle.proofs.Deciding.{old_fails, old_kept}
+use native.Mathlib.Omega.{arith}
+use Rattle.bundle.proofs.fitting.old_entries_fit.Goals as goal
+
+pub old_count-count-requires : goal.old_count-count-requires
+old_count-count-requires c = c.requires.0
+
+pub loop-i-init : goal.loop-i-init
+unfolding old_at lowest entries_fit each
+loop-i-init c = (omega arith, refl, refl, omega arith, refl, refl)
+
+pub returns-then-not-old_entry_fits : goal.returns-then-not-old_entry_fits
+returns-then-not-old_entry_fits c =
+    let a = c.args in
+    let l = c.loop-i in
+    sym (old_fails a.n a.s.now l.i l.at l.low l.invariant.1 l.invariant.2 (omega (arith, c.old_count-count.ensures))
+    (sym c.old_entry_fits.ensures ∙ c.if-not-old_entry_fits.true))
+
+pub bounds-s-at : goal.bounds-s-at
+bounds-s-at c =
+    let a = c.args in
+    let l = c.loop-i in
+    let k = old_kept a.n a.s.now l.i l.at l.low l.invariant.1 l.invariant.2 (sym c.old_entry_fits.ensures ∙ c.if-not-old_entry_fits.false) in
+    omega (arith, k.head)
+
+pub overflow_cast-low : goal.overflow_cast-low
+overflow_cast-low c = omega (arith, c.shared_slice_known-in-loop-i-1.given c.loop-i.at)
+
+pub overflow_add-low : goal.overflow_add-low
+overflow_add-low c = omega (arith, c.shared_slice_known-in-loop-i-1.given c.loop-i.at)
+
+pub next_old-at-requires : goal.next_old-at-requires
+next_old-at-requires c =
+    let a = c.args in
+    let l = c.loop-i in
+    let k = old_kept a.n a.s.now l.i l.at l.low l.invariant.1 l.invariant.2 (sym c.old_entry_fits.ensures ∙ c.if-not-old_entry_fits.false) in
+    (omega (arith, k.head), c.requires.1)
+
+pub loop-i-preserved : goal.loop-i-preserved
+loop-i-preserved c =
+    let a = c.args in
+    let l = c.loop-i in
+    let s = a.s.now in
+    let k = old_kept a.n s l.i l.at l.low l.invariant.1 l.invariant.2 (sym c.old_entry_fits.ensures ∙ c.if-not-old_entry_fits.false) in
+    let q = old_step s l.i l.at l.invariant.1 c.next_old-at.ensures in
+    let next = ap (λ (x : ℕ). byte s x + 1) l.invariant.1 ∙ sym (lowest_next (old_position s) l.i) in (
+      omega arith,
+      q,
+      next,
+      omega (arith, q, k.near, c.requires.1),
+      one_more a.n (old_position s) (old_marks s) l.i l.invariant.4 k.entry,
+      each_next (blocks_fit s) l.i l.invariant.5 k.blocks,
+    )
+
+pub returns : goal.returns
+unfolding new_at
+returns c =
+    let a = c.args in
+    let l = c.loop-i in
+    let s = a.s.now in
+    let e : l.i ≡ old_count s = omega (arith, c.old_count-count.ensures) in
+    let f : entries_fit a.n (old_position s) (old_marks s) (old_count s) ≡ true = rw e at l.invariant.4 in
+    let g : each (blocks_fit s) (old_count s) ≡ true = rw e at l.invariant.5 in
+    rw (f, g) (ap (λ (x : ℕ). ltb x (length s)) (l.invariant.1 ∙ ap (old_at s) e))
