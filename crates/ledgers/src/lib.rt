@@ -1,4 +1,5 @@
 // What the calls on a keeper's ledgers share: the search for a ledger's row, and receipts.
+#![tactic(auto)]
 
 mod receipts;
 mod search;
