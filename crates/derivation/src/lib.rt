@@ -1,4 +1,6 @@
 // Whether one old roll and the digests listed for it lead to this keeper's roll.
+#![tactic(auto)]
+
 mod growth;
 mod old;
 
