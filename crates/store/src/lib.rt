@@ -1,4 +1,6 @@
 // The cabinet store of document 02, M-104: texts in blocks of 512 bytes in a lent area, appended and read back.
+#![tactic(auto)]
+
 mod appending;
 mod reading;
 mod scan;

@@ -1,0 +1,15 @@
+use mathlib.Core.Path.{◌≡◌, ap, ◌∙◌}
+use Prim.Native.Nat.{ℕ, ◌+◌, ◌-◌, ◌*◌}
+use native.Mathlib.Omega.{arith}
+use lib.ListN.{take, drop}
+use Rattle.store.specs.Area.{block_at}
+use Rattle.checks.specs.Check.{block_bytes}
+use Rattle.store.specs.Read.{answers}
+use Rattle.store.proofs.standing.answers_at.Goals as goal
+
+pub returns : goal.returns
+unfolding block_at
+returns c =
+    let a = c.args in
+    let e : block_bytes * a.i + block_bytes - block_bytes * a.i ≡ block_bytes = omega arith in
+    c.is_asked.ensures ∙ ap (λ (k : ℕ). answers a.label.now a.height (take k (drop (block_bytes * a.i) a.area.now))) e
