@@ -1,4 +1,6 @@
 // Initialise: a keeper founds a rack, or prepares to take over a roll.
+#![tactic(auto)]
+
 mod asked;
 mod entry;
 mod heads;
