@@ -1,4 +1,5 @@
 // Append, over a head by value and a table as flat bytes; its parts serve Append and read and Append many too.
+#![tactic(auto)]
 
 mod appending;
 mod table;
