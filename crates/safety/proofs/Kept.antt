@@ -76,7 +76,7 @@ module _ (key : List ℕ) (k : Keeper) (whole : Whole k.head) where
   -- a head with the same identity and racks
   same_whole : (h : Head) → h.identity ≡ k.head.identity → h.own ≡ k.head.own → h.previous ≡ k.head.previous → Whole h
   same_whole h i o p =
-      record { identity = ap length i ∙ whole.identity; own = ap length o ∙ whole.own_val; previous = ap length p ∙ whole.previous }
+      record { identity = ap length i ∙ whole.identity; own = ap length o ∙ whole.own; previous = ap length p ∙ whole.previous }
 
   entered_whole :
       (identity roll previous own area : List ℕ) (b : Bool) → length identity ≡ digest_bytes

@@ -48,7 +48,7 @@ pub record Signed (k : Keeper) (size : ℕ) (s : List ℕ) : Type 0 where
 module _ (h : Head) (whole : Whole h) (label tail : List ℕ) (sized : length label ≡ label_bytes) (tailed : length tail ≡ digest_bytes)
     (k : Keeper) (identity : k.head.identity ≡ h.identity) (own : k.head.own ≡ h.own) where
   arrays : (kind : Kind) → Arrays (receipt_of h kind label tail)
-  arrays kind = record { identity = whole.identity; own = whole.own_val; label = sized; tail = tailed; other = refl; roll = refl }
+  arrays kind = record { identity = whole.identity; own = whole.own; label = sized; tail = tailed; other = refl; roll = refl }
 
   pub new_signed : not (all_zero label) ≡ true → tail ≡ no_digest → look (roll_in k) label ≡ standing 0 tail → Signed k receipt_size (statement_written (receipt_of h New label tail))
   unfolding all_zero row_holds receipt_fits fits_as statement_fits

@@ -82,13 +82,13 @@ module _ (Hashes : List ℕ → Type 0) (Said : List ℕ → Statement → Type 
     unfolding finalise_statement old_statement
     old_cut i =
         (leave_back k.head.identity k.head.own k.head.previous (roll_name (roll_of s i))
-        whole.identity whole.own_val whole.previous (roll_digest_long (roll_of s i).count (roll_of s i).rows)).cut
+        whole.identity whole.own whole.previous (roll_digest_long (roll_of s i).count (roll_of s i).rows)).cut
 
     new_cut : cut_statement (initialise_statement k.head k.table) ≡ enter_of k.head.identity k.head.previous k.head.own (roll_name (roll_in k))
     unfolding initialise_statement
     new_cut =
         (enter_back k.head.identity k.head.previous k.head.own (roll_name (roll_in k))
-        whole.identity whole.previous whole.own_val (roll_digest_long k.head.count k.table)).cut
+        whole.identity whole.previous whole.own (roll_digest_long k.head.count k.table)).cut
 
     module _ (g : Gives key k this [] (acting k.head) k.table []) (b : Bundled (lent k []) previous own s) (w : Handing (lent k []) previous own s) where
       hashed_here : (t : List ℕ) → t ∈ (rack_string previous ∷ rack_string own ∷ listed (old_count s) (old_string s)) → Hashes t

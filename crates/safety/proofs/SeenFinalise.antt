@@ -42,7 +42,7 @@ module _ (Hashes : List ℕ → Type 0) (Said : List ℕ → Statement → Type 
     word_back : Back word
     word_back =
         leave_back k.head.identity (rack_digest next) k.head.own (roll_digest k.head.count k.table)
-        whole.identity (rack_digest_long next) whole.own_val (roll_digest_long k.head.count k.table)
+        whole.identity (rack_digest_long next) whole.own (roll_digest_long k.head.count k.table)
 
     said_so : (g : Gives key k this (last_words new_head k.table) new_head k.table area) → says key k this ≡ word ∷ []
     unfolding statements_in finalise_statement last_words

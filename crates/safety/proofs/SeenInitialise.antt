@@ -45,7 +45,7 @@ module _ (Hashes : List ℕ → Type 0) (Said : List ℕ → Statement → Type 
   unfolding statements_in initialise_statement
   said_so h table whole g =
       let b : Back (enter_of h.identity h.previous h.own (roll_digest h.count table)) =
-      enter_back h.identity h.previous h.own (roll_digest h.count table) whole.identity whole.previous whole.own_val (roll_digest_long h.count table) in
+      enter_back h.identity h.previous h.own (roll_digest h.count table) whole.identity whole.previous whole.own (roll_digest_long h.count table) in
       ap (map cut_statement) g.signs
       ∙ ap (λ (s : List ℕ). cut_statement s ∷ []) (alone_in area (initialise_statement h table) handover_size b.long)
       ∙ ap (λ (v : Statement). v ∷ []) b.cut
