@@ -1,4 +1,6 @@
 // Blocks of the morning report of document 02, M-103: racks and receipts, which are damaged, and what the desk finds of a receipt.
+#![tactic(auto)]
+
 mod block;
 mod judging;
 mod parts;
