@@ -1,4 +1,5 @@
 // New, over a head by value and a table as flat bytes.
+#![tactic(auto)]
 
 mod companies;
 mod making;
