@@ -1,4 +1,6 @@
 // The entry of a bundle that a chip is asked about, for C: its position in the rack, and its marks set.
+#![tactic(auto)]
+
 mod calls;
 mod entry;
 
