@@ -1,4 +1,5 @@
 // Append many, over a head by value and a table as flat bytes.
+#![tactic(auto)]
 
 mod recording;
 mod tests;
