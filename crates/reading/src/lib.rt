@@ -1,4 +1,5 @@
 // Read, and Append and read, over a head by value and a table as flat bytes.
+#![tactic(auto)]
 
 mod reading;
 
