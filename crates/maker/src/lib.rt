@@ -1,4 +1,6 @@
 // What the maker of handover bundles finds and answers. Its rule is in specs/.
+#![tactic(auto)]
+
 use rows::TAIL;
 
 // Height and tail of the highest old row of a label; zeros for a label that no old roll has.
