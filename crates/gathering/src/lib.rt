@@ -1,4 +1,6 @@
 // The labels of the old rolls in order, the search for one, and the highest old row of each.
+#![tactic(auto)]
+
 mod labels;
 mod old;
 mod search;
