@@ -1,4 +1,6 @@
 // Taking over from an earlier rack: Activate, and the bytes that the marks of its bundle speak of.
+#![tactic(auto)]
+
 mod activating;
 mod asking;
 mod checking;
