@@ -1,4 +1,6 @@
 // A night's blocks counted for the morning report of document 02, M-103: at most 63 lines, the nearest rack and the totals, from one block to the next.
+#![tactic(auto)]
+
 mod lines;
 mod passing;
 mod racks;
