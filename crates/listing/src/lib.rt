@@ -1,4 +1,6 @@
 // What the store answers, and whether it leads from each old row to the highest of its label.
+#![tactic(auto)]
+
 mod answers;
 mod early;
 mod leading;

@@ -1,0 +1,40 @@
+use mathlib.Core.Path.{◌≡◌, sym, ap, ◌∙◌}
+use Prim.Native.Nat.{ℕ}
+use native.Mathlib.Omega.{arith}
+use Rattle.cabinet.specs.Block.{digest_in}
+use Rattle.store.specs.Area.{blocks, block_at}
+use Rattle.store.specs.Read.{first_answer}
+use Rattle.listing.proofs.Answered.{answering, place_within, place_lies, place_has, digest_there}
+use Rattle.listing.proofs.answers.digest_for.Goals as goal
+use Rattle.listing.proofs.answers.digest_for.Goals.{Start}
+
+-- the block that answers
+there : (s : Start) → first_answer s.args.store.now s.args.label s.args.height (blocks s.args.store.now) ≡ blocks s.args.store.now
+    → ⊥
+there s = answering s.args.store.now s.args.label s.args.height s.requires.0 s.requires.1
+
+pub returns-then-only-blocks : goal.returns-then-only-blocks
+unfolding blocks
+returns-then-only-blocks c =
+    let s = (goal.at.returns-then-only-blocks c).Start in
+    let a = s.args in
+    let n = there s in
+    let within = place_within a.store.now a.label a.height s.requires.0 in
+    let same = c.only_block-only.ensures _ c.if-only-blocks.true (omega (arith, within, n))
+    (place_has a.store.now a.label a.height s.requires.0 n) in
+    c.digest_at.ensures ∙ ap (λ (i : ℕ). digest_in (block_at a.store.now i)) (sym same)
+    ∙ sym (digest_there a.store.now a.label a.height s.requires.0 n)
+
+pub digest_at-requires-2 : goal.digest_at-requires-2
+unfolding blocks
+digest_at-requires-2 c =
+    let s = (goal.at.digest_at-requires-2 c).Start in
+    omega (arith, c.first_answer-i.ensures, place_lies s.args.store.now s.args.label s.args.height s.requires.0 (there s))
+
+pub returns : goal.returns
+unfolding blocks
+returns c =
+    let s = (goal.at.returns c).Start in
+    let a = s.args in
+    c.digest_at-2.ensures ∙ ap (λ (i : ℕ). digest_in (block_at a.store.now i)) c.first_answer-i.ensures
+    ∙ sym (digest_there a.store.now a.label a.height s.requires.0 (there s))
