@@ -1,4 +1,6 @@
 // The blocks that a desk writes for the morning report of document 02, M-103, for C: a rack's, and a receipt's from what the desk has at hand.
+#![tactic(auto)]
+
 mod racks;
 mod receipts_filed;
 mod writing;
