@@ -140,6 +140,7 @@ module _ {keepers : List (List ℕ)} {start : List ℕ → Keeper} {Told : List 
 
   pub told_so : {l : List Beat} {s : List ℕ} → Good keepers start Told l → Hashed start s (events l) → Told s
   unfolding hashed_at
+  told_so {s = s} begun x3 = elim x3 [ ]
   told_so {s = s} (went g n c z h t r) (now_hashed m) = all_of (subst (λ (y : List (List ℕ)). s ∈ y) (hashed_there g n r) m) t
   told_so (went g n c z h t r) (before_hashed m) = told_so r m
   told_so {s = s} (judged {q = q} e h t r) (now_hashed m) =
@@ -157,6 +158,7 @@ pub data Signed (start : List ℕ → Keeper) (who s : List ℕ) : List Beat →
 
 module _ {keepers : List (List ℕ)} {start : List ℕ → Keeper} {Told : List ℕ → Type 0} {who s : List ℕ} where
   returned : {l : List Beat} → Good keepers start Told l → Signed start who s l → Returned start who s (events l)
+  returned begun x3 = elim x3 [ ]
   returned (went g n c z h t r) (here {call = call} e) =
       now_returned (subst (λ (y : List (List ℕ)). s ∈ y) (sym (ap (λ (x : Keeper). for_signing who x call) (kept_so r who) ∙ e)) at_front)
   returned (went g n c z h t r) (before m) = before_returned (returned r m)
