@@ -18,18 +18,7 @@ use Rattle.octets.proofs.Puts.{take_put, put-length}
 use Rattle.rows.specs.Sizes.{label_bytes, tail_bytes, height_bytes, row_bytes}
 use Rattle.table.specs.declared.Row.{Row}
 use Rattle.table.specs.Flat.{row_string, flattened, row_cut, rows_of}
-
--- a row as its type has it
-pub record Typed (r : Row) : Type 0 where
-  pub label : length r.label ≡ label_bytes
-  pub tail : length r.tail ≡ tail_bytes
-  pub height : r.height < 2 ^ 64
-  pub label_octets : Octets r.label
-  pub tail_octets : Octets r.tail
-
-pub data AllTyped : List Row → Type 0 where
-  nil : AllTyped []
-  cons : {r : Row} {rs : List Row} → Typed r → AllTyped rs → AllTyped (r ∷ rs)
+pub use Rattle.table.specs.Typed.{Typed, AllTyped, nil, cons}
 
 pub string_length : (r : Row) → Typed r → length (row_string r) ≡ row_bytes
 unfolding row_string

@@ -17,6 +17,10 @@ use Rattle.rules.specs.Table.{moved}
 use Rattle.table.specs.declared.Row.{Row}
 use Rattle.table.specs.Flat.{row_cut, rows_of, rows_put, blank_rows}
 
+-- a row that is out of range
+abbrev pub no_row : Row
+no_row = record { label = []; tail = []; height = 0 }
+
 module _ (old new : List Row) where
   pub put_none : rows_put 0 0 old new ≡ old
   unfolding rows_put

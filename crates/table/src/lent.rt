@@ -2,16 +2,23 @@
 ghost use Rattle.std.specs.Prelude.{◌≡◌, ◌≤◌, length};
 ghost use Rattle.rows.specs.Sizes.{most_rows, table_bytes};
 ghost use Rattle.table.specs.Flat.{flattened, rows_of, rows_put, blank_rows};
+ghost use Rattle.table.specs.Typed.{AllTyped};
 
 use crate::Row;
 use crate::flattening::{blank_row, put_row, row_at};
 use rows::MOST;
+
+// It does nothing: what its type says of each row that is lent, its contract says to the caller.
+pub fn rows_typed(rows: &[Row])
+    ensures { AllTyped rows.now }
+{}
 
 // The bytes become the rows', row behind row.
 pub fn flat_in(rows: &[Row], bytes: &mut [u8])
     requires { (length rows.now ≡ most_rows) × (length bytes.old ≡ table_bytes) }
     ensures { bytes.new ≡ flattened rows.now }
 {
+    rows_typed(rows);
     let mut i = 0;
     while i < MOST {
         let row = rows[i];

@@ -1,4 +1,6 @@
 // The record that a caller lends: the ledger table as rows, read once into the core's flat bytes; what a call leaves, written back where it changed.
+#![tactic(auto)]
+
 mod flattening;
 mod heads;
 mod leaving;
@@ -8,7 +10,7 @@ mod other;
 pub use flattening::{flat, rows_of};
 pub use heads::head_out;
 pub use leaving::leave;
-pub use lent::{flat_in, rows_clear, rows_out};
+pub use lent::{flat_in, rows_clear, rows_out, rows_typed};
 pub use other::other_length;
 use rows::{LABEL, TAIL};
 use rules::{Answer, Head};
