@@ -24,19 +24,19 @@ use Rattle.interface.specs.contracts.Rack as R
 use Rattle.interface.specs.contracts.Roll as O
 use Rattle.interface.specs.contracts.Plain as P
 
-each_key : (keys : List Key) (us : List Val) → Elements K.the_field keys us → Each key_bytes (map bytes_in keys)
+each_key : (keys : List Key) (us : List Val) → Elements (row K.the_type) keys us → Each key_bytes (map bytes_in keys)
 each_key [] us g = none
 each_key (k ∷ keys) [] g = absurd g
-each_key (k ∷ keys) (u ∷ us) g = more (simp length-map at g.0.1.1.0.1.0.1) (each_key keys us g.1)
+each_key (k ∷ keys) (u ∷ us) g = more g.0.1.1.0.1.0.1 (each_key keys us g.1)
 
 pub rack_typed : (r : Rack) (vs : List Val) → Is (row R.the_type) r vs → rack-shape.Shaped (rack_of r)
 unfolding keys_of
 rack_typed r vs g =
     let a = g.1.1.1.0 in
-    let n : length r.keys ≡ most = simp length-map at a.1.0.1 in
+    let n : length r.keys ≡ most = a.1.0.1 in
     record { places = length-map r.keys bytes_in ∙ n; sizes = each_key r.keys _ a.1.1 }
 
-each_row : (rows : List Row) (us : List Val) → Elements W.the_field rows us → AllTyped rows
+each_row : (rows : List Row) (us : List Val) → Elements (row W.the_type) rows us → AllTyped rows
 each_row [] us g = nil
 each_row (r ∷ rows) [] g = absurd g
 each_row (r ∷ rows) (u ∷ us) g = cons (typed_row r (u ∷ []) g.0) (each_row rows us g.1)
@@ -44,7 +44,7 @@ each_row (r ∷ rows) (u ∷ us) g = cons (typed_row r (u ∷ []) g.0) (each_row
 pub roll_typed : (r : Roll) (vs : List Val) → Is (row O.the_type) r vs → (length r.rows ≡ most_rows) × AllTyped r.rows
 roll_typed r vs g =
     let a = g.1.1.1.0 in
-    (simp length-map at a.1.0.1, each_row r.rows _ a.1.1)
+    (a.1.0.1, each_row r.rows _ a.1.1)
 
 pub plain_typed : (p : Plain) (vs : List Val) → Is (row P.the_type) p vs → Typed p
 unfolding statement_of
@@ -54,14 +54,14 @@ plain_typed p vs g =
     record {
       arrays =
           record {
-            identity = simp length-map at a.0.1.0.1;
-            own = simp length-map at a.1.0.1.0.1;
-            label = simp length-map at a.1.1.1.1.0.1.0.1;
-            tail = simp length-map at a.1.1.1.1.1.0.1.0.1;
-            other = simp length-map at a.1.1.0.1.0.1;
-            roll = simp length-map at a.1.1.1.0.1.0.1;
+            identity = a.0.1.0.1;
+            own = a.1.0.1.0.1;
+            label = a.1.1.1.1.0.1.0.1;
+            tail = a.1.1.1.1.1.0.1.0.1;
+            other = a.1.1.0.1.0.1;
+            roll = a.1.1.1.0.1.0.1;
           };
-      nonce = simp length-map at b.0.1.0.1;
+      nonce = b.0.1.0.1;
       octets = octets p.nonce _ b.0.1.1;
       height = b.1.0.1;
     }

@@ -1,4 +1,6 @@
 // The calls for C: the hash, the digests, the layouts and the verdict, as `include/mahqurith.h` declares them.
+#![tactic(auto)]
+
 mod digests;
 mod hashing;
 mod judging;
