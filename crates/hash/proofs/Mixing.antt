@@ -1,5 +1,5 @@
 -- The six functions of the standard in fewer operations, on words of w bits: each equation is the one by which the code computes. Assumes nothing.
-use Rattle.std.proofs.Common.{◌≡◌, ℕ, ◌+◌, ◌-◌, ◌^◌, ◌<◌, ◌≤◌, sym, refl, ap, ◌∙◌, ap₂, mod-eq_of_lt, arith}
+use Rattle.std.proofs.Common.{◌≡◌, ℕ, ◌+◌, ◌-◌, ◌^◌, ◌<◌, ◌≤◌, sym, ap, ◌∙◌, ap₂, mod-eq_of_lt, arith}
 use lib.Bits.{bit_and, bit_xor, and_self, and_comm, and_mask, xor_comm, xor_lt}
 use Rattle.hash.specs.Words.{complement, shr, rotr}
 use Rattle.hash.specs.Functions.{Ch, Maj, upper_sigma, lower_sigma}

@@ -1,5 +1,5 @@
 -- What callers take from the promise: which inputs are hashed and which refused, that it leaves no choice, and that a digest is 32 bytes. Assumes nothing.
-use Rattle.std.proofs.Common.{◌≡◌, ℕ, zero, suc, ◌+◌, ◌*◌, ◌/◌, ◌<◌, ◌≤◌, List, length, get_or, sym, ◌∙◌, arith, lit<, length-take, le-leb}
+use Rattle.std.proofs.Common.{◌≡◌, ℕ, zero, suc, ◌/◌, ◌<◌, ◌≤◌, List, length, get_or, sym, ◌∙◌, arith, lit<, length-take, le-leb}
 use borrow.Author.Tests.{lt-leb}
 use Rattle.refusals.specs.{accepted, input_too_long}
 use Rattle.octets.specs.Numbers.{bytes_of}

@@ -1,5 +1,5 @@
 -- Laws of the rotation of words of w bits: it goes through ⊕, and two rotations are one. Assumes nothing.
-use Rattle.std.proofs.Common.{◌≡◌, ℕ, ◌+◌, ◌-◌, ◌*◌, ◌/◌, ◌%◌, ◌^◌, ◌<◌, ◌≤◌, sym, refl, ap, ◌∙◌, ap₂, lt_of_le_of_lt, add-zero, add_assoc, mod-lt, mul_assoc, add-mul, add_comm, arith, pow_pos, pow-add, shr-shr, shr_lt}
+use Rattle.std.proofs.Common.{◌≡◌, ℕ, ◌+◌, ◌-◌, ◌*◌, ◌/◌, ◌%◌, ◌^◌, ◌<◌, ◌≤◌, sym, ap, ◌∙◌, ap₂, lt_of_le_of_lt, add-zero, add_assoc, mod-lt, mul_assoc, add-mul, add_comm, arith, pow_pos, pow-add, shr-shr, shr_lt}
 use native.Mathlib.Nat.{add-mul-div_right, mul-add-mod_self_right, mul-mod_left}
 use lib.Pow.{shl-shr, shr_le, mod-pow-add}
 use lib.Bits.{bit_or, bit_xor, or_lt, or_shifted_r, xor_lt, xor_mod, xor_shr, xor_block}

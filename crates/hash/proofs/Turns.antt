@@ -1,5 +1,5 @@
 -- Turns, and the last rounds after them, are the rounds of the standard. Assumes nothing.
-use Rattle.std.proofs.Common.{◌≡◌, ℕ, zero, suc, ◌+◌, ◌<◌, ◌≤◌, List, length, get_or, sym, refl, ap, ◌∙◌, ap₂, add-zero, add-suc, add_comm, zero-add, arith}
+use Rattle.std.proofs.Common.{◌≡◌, ℕ, zero, suc, ◌+◌, ◌≤◌, List, length, get_or, sym, refl, ap, ◌∙◌, ap₂, add-zero, add-suc, add_comm, zero-add, arith}
 use Rattle.hash.specs.Family.{Family}
 use Rattle.hash.specs.Schedule.{schedule}
 use Rattle.hash.specs.Rounds.{Eight, initial, round, rounds, summed, compressed}

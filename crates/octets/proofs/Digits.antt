@@ -12,7 +12,7 @@ use lib.Seq.{drop-drop}
 use lib.Arith.{digits_lt}
 use lib.Dec.{eqb, ltb, eqb-suc-suc, leb-suc-suc}
 use Rattle.octets.specs.Numbers.{number_of}
-use Rattle.octets.specs.Strings.{same, before}
+use Rattle.octets.specs.Strings.{before}
 use Rattle.octets.proofs.Exact.{Octets, octets_take, octets_drop, number_below}
 
 sums : (m u v : ℕ) → (eqb (m + u) (m + v) ≡ eqb u v) × (ltb (m + u) (m + v) ≡ ltb u v)

@@ -1,7 +1,5 @@
 use mathlib.Core.Path.{◌≡◌, refl, sym, ◌∙◌}
-use mathlib.Core.Bool.{true}
 use Prim.Native.Nat.{◌*◌, ◌/◌}
-use borrow.Author.Tests.{not-true, not-false}
 use lib.ListN.{length}
 use Rattle.marks.specs.Entries.{entries_fit, pair_position, pair_marks}
 use Rattle.marks.proofs.Listed.{lowest, lowest_next, entry_by_lowest, one_more, one_fails}

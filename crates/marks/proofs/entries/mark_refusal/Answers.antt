@@ -1,5 +1,4 @@
 use mathlib.Core.Path.{sym, ◌∙◌}
-use borrow.Author.Tests.{not-true, not-false}
 use Rattle.refusals.specs.Order.{first}
 use Rattle.marks.specs.Entries.{mark_tests}
 use Rattle.marks.proofs.entries.mark_refusal.Goals as goal

@@ -3,7 +3,6 @@ use mathlib.Core.Bool.{Bool, ◌&&◌}
 use mathlib.Core.List.{flatten}
 use Prim.Native.Nat.{◌+◌, ◌≤◌}
 use native.Mathlib.Omega.{arith}
-use borrow.Author.Tests.{not-true, not-false}
 use lib.ListN.{length, drop}
 use Rattle.octets.specs.Strings.{all_zero}
 use Rattle.rack.proofs.Shapes.{shaped}

@@ -3,7 +3,6 @@ use mathlib.Core.Bool.{Bool, true, ◌&&◌}
 use mathlib.Core.List.{List}
 use Prim.Native.Nat.{ℕ}
 use native.Mathlib.Omega.{arith}
-use borrow.Author.Tests.{not-true, not-false}
 use lib.ListN.{get_or, take}
 use Rattle.octets.specs.Strings.{rising}
 use Rattle.rack.specs.Racks.{rack_cut}

@@ -1,5 +1,5 @@
 use mathlib.Core.Path.{sym, ◌∙◌}
-use borrow.Author.Tests.{le-leb, lt-leb, not-true, not-false}
+use borrow.Author.Tests.{le-leb, lt-leb}
 use Rattle.rack.specs.Racks.{most, rack_fits}
 use Rattle.rack.proofs.writing.is_fitting.Goals as goal
 
