@@ -1,13 +1,14 @@
 -- The contract of each exported call allows one outcome: two that it allows for the same arguments have the same answer, and leave the same head, rows and
 -- area; and an answer other than 0 leaves these as they were lent. Assumes nothing.
-use mathlib.Core.List.{[], ◌∷◌}
+use mathlib.Core.Path.{◌≡◌}
+use mathlib.Core.List.{[]}
 use seplogic.Ra.Ura.{Ura}
-use base.Logic.{SProp}
+use base.Logic.{SProp, emp}
 use prog.Memory.{Memory}
 use prog.Routine.{Routine}
 use types.Logic.{Logic}
 use contract.Lifetimes.{Lfts}
-use contract.Monad.{Fun}
+use contract.Monad.{Fun, fact}
 use denote.Triple.Clauses.{Clauses, AtExit}
 use denote.Triple.Entry.{Args}
 use Rattle.rules.specs.declared.Answer.{Answer}
@@ -19,10 +20,8 @@ use Rattle.rules.specs.AppendMany.{appending_many}
 use Rattle.rules.specs.Read.{reading, appending_and_reading}
 use Rattle.rules.proofs.Refused.{Spares, waking_spares, making_spares, appending_spares, appending_many_spares, reading_spares, appending_and_reading_spares}
 use Rattle.table.specs.declared.Asked.{Asked}
-use Rattle.table.specs.Held.{Held}
+use Rattle.table.specs.Held.{Held, over_rows}
 use Rattle.table.proofs.Outcomes.{held, One, Spared, one_outcome, refusal_spares}
-use Rattle.walks.proofs.Further.{asked_by_value}
-use Rattle.walks.proofs.ChangingCalls.{call_clauses}
 use Rattle.keeper.specs.contracts.waking.mahqurith_wake as wake
 use Rattle.keeper.specs.contracts.thin.mahqurith_new as new
 use Rattle.keeper.specs.contracts.thin.mahqurith_append as append
@@ -54,7 +53,11 @@ seen_of_read κs a r e = held r a.0.now a.1.0.now e.1.1.1.0.now
 -- of the calls that change the record, whichever their rule
 module _ {M : Type 1} (𝓤 : Ura M) (rule : Lent → Asked → Outcome) where
   abbrev thin_clauses : Clauses 𝓤 new.ended
-  thin_clauses = call_clauses {m = 1} (asked_by_value ∷ []) 0 tt 𝓤 (λ k x. rule k x.0)
+  thin_clauses = λ κs a. record {
+    ghost = Unit {0};
+    requires = λ g. emp 𝓤;
+    ensures = λ g r e. fact 𝓤 (seen κs a r e ≡ over_rows (λ k. rule k a.1.1.0) a.0.now a.1.0.now a.1.1.1.0.now);
+  }
 
   thin_one : One 𝓤 new.ended thin_clauses seen
   thin_one κs a g r r' e e' =

@@ -1,4 +1,6 @@
 // The keeper's calls on ledgers, and Wake, on a head and rows that the caller lends: what a box's firmware links.
+#![tactic(auto)]
+
 mod ledger;
 mod many;
 mod thin;

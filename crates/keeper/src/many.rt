@@ -7,7 +7,7 @@ use crate::ledger::append_many_left;
 use rows::{MOST, TABLE};
 use rules::{Answer, Head};
 use statement::RECEIPT_SIZE;
-use table::{Asked, Row, flat_in, head_out, other_length, rows_out};
+use table::{Asked, Row, flat_in, head_out, other_length, rows_out, rows_typed};
 
 // Append many; the list is entry digests, one behind the other.
 #[unsafe(no_mangle)]
@@ -20,6 +20,7 @@ pub extern "C" fn mahqurith_append_many(
 ) -> Answer
     ensures { record { answer = result; head = h.new; rows = rows.new; area = area.new } ≡ over_rows (λ k. appending_many k asked.label list.now asked.expected) h.old rows.old area.old }
 {
+    rows_typed(rows);
     if rows.len() != MOST {
         return other_length(area.len(), RECEIPT_SIZE);
     }

@@ -9,7 +9,7 @@ use crate::ledger::{append_and_read_left, append_left, new_left, read_left};
 use rows::{MOST, TABLE};
 use rules::{Answer, Head};
 use statement::{READING_SIZE, RECEIPT_SIZE};
-use table::{Asked, Row, flat_in, head_out, other_length, rows_out};
+use table::{Asked, Row, flat_in, head_out, other_length, rows_out, rows_typed};
 
 const BOTH: usize = RECEIPT_SIZE + READING_SIZE;
 
@@ -23,6 +23,7 @@ pub extern "C" fn mahqurith_new(
 ) -> Answer
     ensures { record { answer = result; head = h.new; rows = rows.new; area = area.new } ≡ over_rows (λ k. making k asked.label) h.old rows.old area.old }
 {
+    rows_typed(rows);
     if rows.len() != MOST {
         return other_length(area.len(), RECEIPT_SIZE);
     }
@@ -44,6 +45,7 @@ pub extern "C" fn mahqurith_append(
 ) -> Answer
     ensures { record { answer = result; head = h.new; rows = rows.new; area = area.new } ≡ over_rows (λ k. appending k asked.label asked.entry asked.expected) h.old rows.old area.old }
 {
+    rows_typed(rows);
     if rows.len() != MOST {
         return other_length(area.len(), RECEIPT_SIZE);
     }
@@ -60,6 +62,7 @@ pub extern "C" fn mahqurith_append(
 pub extern "C" fn mahqurith_read(h: &Head, rows: &[Row], asked: Asked, area: &mut [u8]) -> Answer
     ensures { record { answer = result; head = h.now; rows = rows.now; area = area.new } ≡ over_rows (λ k. reading k asked.label asked.nonce) h.now rows.now area.old }
 {
+    rows_typed(rows);
     if rows.len() != MOST {
         return other_length(area.len(), READING_SIZE);
     }
@@ -78,6 +81,7 @@ pub extern "C" fn mahqurith_append_and_read(
 ) -> Answer
     ensures { record { answer = result; head = h.new; rows = rows.new; area = area.new } ≡ over_rows (λ k. appending_and_reading k asked.label asked.entry asked.expected asked.nonce) h.old rows.old area.old }
 {
+    rows_typed(rows);
     if rows.len() != MOST {
         return other_length(area.len(), BOTH);
     }

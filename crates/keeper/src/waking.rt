@@ -8,7 +8,7 @@ ghost use Rattle.table.specs.Held.{Held, over_rows};
 use record::BLANK;
 use rows::MOST;
 use rules::{Answer, Head};
-use table::{Asked, Left, Row, head_out, other_length, rows_clear};
+use table::{Asked, Left, Row, head_out, other_length, rows_clear, rows_typed};
 
 // What Wake leaves: another head, and every row.
 fn wake_left(asked: Asked) -> Left
@@ -45,6 +45,7 @@ fn wake_left(asked: Asked) -> Left
 pub extern "C" fn mahqurith_wake(h: &mut Head, rows: &mut [Row], asked: Asked) -> Answer
     ensures { record { answer = result; head = h.new; rows = rows.new; area = [] } ≡ over_rows (λ k. waking k asked.key) h.old rows.old [] }
 {
+    rows_typed(rows);
     if rows.len() != MOST {
         return other_length(0, 0);
     }

@@ -1,0 +1,26 @@
+use Rattle.statement.specs.Kinds.{receipt_size}
+use Rattle.rules.specs.Outcomes.{Lent}
+use Rattle.rules.specs.Rows.{present_height}
+use Rattle.rules.specs.Append.{append_statement, appending}
+use Rattle.rules.proofs.Refused.{appending_spares}
+use Rattle.keeper.proofs.MovedRows.{place_below, one_moved}
+use Rattle.keeper.proofs.ledger.append_left.Goals as goal
+
+pub leave_moved-requires : goal.leave_moved-requires
+unfolding appending
+leave_moved-requires c =
+    let a = c.args in
+    let k : Lent = record { head = a.head; table = a.table.now; area = a.area.now } in
+    place_below receipt_size (present_height k a.asked.label) k a.asked.label a.asked.entry _
+    (append_statement k a.asked.label a.asked.entry)
+    c.append-moved.result.told c.append-moved.result.place _ _ c.append-moved.ensures.outcome c.append-moved.ensures.place
+
+pub returns : goal.returns
+unfolding appending
+returns c =
+    let a = c.args in
+    let k : Lent = record { head = a.head; table = a.table.now; area = a.area.now } in
+    one_moved receipt_size (present_height k a.asked.label) k a.asked.label a.asked.entry a.asked.expected
+    (append_statement k a.asked.label a.asked.entry)
+    c.append-moved.result.told c.append-moved.result.place _ _ c.append-moved.ensures.outcome c.append-moved.ensures.place c.leave_moved.result
+    c.leave_moved.ensures (appending_spares k a.asked.label a.asked.entry a.asked.expected)
