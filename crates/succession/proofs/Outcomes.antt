@@ -1,7 +1,6 @@
 -- The contract of each exported call allows one outcome: two that it allows for the same arguments have the same answer, and leave the same head, rows and
 -- area; and an answer other than 0 leaves these as they were lent. Assumes nothing.
-use mathlib.Core.List.{List, []}
-use Prim.Native.Nat.{ℕ}
+use mathlib.Core.List.{[]}
 use seplogic.Ra.Ura.{Ura}
 use base.Logic.{SProp}
 use prog.Memory.{Memory}
@@ -16,7 +15,7 @@ use Rattle.rules.specs.Initialise.{initialising}
 use Rattle.rules.specs.Finalise.{finalising}
 use Rattle.rules.specs.Activate.{activating}
 use Rattle.rules.specs.Check.{checking}
-use Rattle.rules.proofs.Refused.{Spares, initialising_spares, finalising_spares, activating_spares, checking_spares}
+use Rattle.rules.proofs.Refused.{initialising_spares, finalising_spares, activating_spares, checking_spares}
 use Rattle.table.specs.Held.{Held}
 use Rattle.table.proofs.Outcomes.{held, One, Spared, one_outcome, refusal_spares}
 use Rattle.succession.specs.contracts.passing.mahqurith_initialise as initialise

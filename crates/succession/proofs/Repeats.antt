@@ -7,7 +7,7 @@ use lib.Dec.{eqb}
 use Rattle.rules.specs.declared.Head.{Head}
 use Rattle.rules.specs.declared.Told.{Told}
 use Rattle.rules.specs.Record.{finalised}
-use Rattle.rules.specs.Outcomes.{Lent, Outcome, outcome, refused, given, again, unless}
+use Rattle.rules.specs.Outcomes.{Lent, Outcome, outcome, given, again, unless}
 use Rattle.rules.specs.Finalise.{leaving, finalising}
 use Rattle.rules.proofs.Refused.{Ends, stopped, went, ends, refused_leaves}
 

@@ -6,7 +6,7 @@ ghost use Rattle.table.specs.Held.{Held, over_rows};
 use crate::status::activate_left;
 use rows::{MOST, TABLE};
 use rules::{Answer, Head};
-use table::{Row, flat_in, head_out, other_length};
+use table::{Row, flat_in, head_out, other_length, rows_typed};
 
 // A prepared keeper becomes active: majorities of both racks stand behind its roll. It writes no bytes, so that of another table the answer is 2.
 #[unsafe(no_mangle)]
@@ -20,6 +20,7 @@ pub extern "C" fn mahqurith_activate(
     ensures { record { answer = result; head = h.new; rows = rows.now; area = [] }
         ≡ over_rows (λ k. activating k previous.now own.now bundle.now) h.old rows.now [] }
 {
+    rows_typed(rows);
     if rows.len() != MOST {
         return other_length(0, 0);
     }

@@ -7,7 +7,7 @@ use crate::status::finalise_left;
 use leaving::FINALISE_SIZE;
 use rows::{MOST, TABLE};
 use rules::{Answer, Head};
-use table::{Row, flat_in, head_out, other_length};
+use table::{Row, flat_in, head_out, other_length, rows_typed};
 
 // The statement and the roll, the first time with the next rack that is given; later the same again.
 #[unsafe(no_mangle)]
@@ -19,6 +19,7 @@ pub extern "C" fn mahqurith_finalise(
 ) -> Answer
     ensures { record { answer = result; head = h.new; rows = rows.now; area = area.new } ≡ over_rows (λ k. finalising k next.now) h.old rows.now area.old }
 {
+    rows_typed(rows);
     if rows.len() != MOST {
         return other_length(area.len(), FINALISE_SIZE);
     }

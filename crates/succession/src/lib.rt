@@ -1,4 +1,6 @@
 // The calls by which one rack follows another, on a head and rows that the caller lends: what a box's firmware links.
+#![tactic(auto)]
+
 mod activating;
 mod finalising;
 mod messages;

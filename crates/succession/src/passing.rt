@@ -8,7 +8,7 @@ use crate::messages::{check_left, initialise_left};
 use rows::{MOST, TABLE};
 use rules::{Answer, Head};
 use statement::HANDOVER_SIZE;
-use table::{Asked, Row, flat_in, head_out, other_length, rows_out};
+use table::{Asked, Row, flat_in, head_out, other_length, rows_out, rows_typed};
 
 // Initialise.
 #[unsafe(no_mangle)]
@@ -24,6 +24,7 @@ pub extern "C" fn mahqurith_initialise(
     ensures { record { answer = result; head = h.new; rows = rows.new; area = area.new }
         ≡ over_rows (λ k. initialising k asked.identity roll.now previous.now own.now) h.old rows.old area.old }
 {
+    rows_typed(rows);
     if rows.len() != MOST {
         return other_length(area.len(), HANDOVER_SIZE);
     }
@@ -49,6 +50,7 @@ pub extern "C" fn mahqurith_bytes_to_check(
     ensures { record { answer = result; head = h.now; rows = rows.now; area = area.new }
         ≡ over_rows (λ k. checking k previous.now own.now bundle.now asked.list asked.number) h.now rows.now area.old }
 {
+    rows_typed(rows);
     if rows.len() != MOST {
         return other_length(area.len(), HANDOVER_SIZE);
     }
