@@ -3,13 +3,17 @@
 // Without FILE it reads standard input.
 #![tactic(auto)]
 
-ghost use Rattle.std.specs.Prelude.{◌+◌, ◌*◌, ◌≤◌, ◌<◌, ◌^◌, length};
+ghost use Rattle.std.specs.Prelude.{◌≡◌, ◌+◌, ◌*◌, ◌≤◌, ◌<◌, ◌^◌, length, take, true, ℕ, IfOk, OnOk};
+ghost use Rattle.std.specs.Io.KnownBytes.{Appends, Consumes, IsAtEnd};
+ghost use Rattle.night.specs.Pass as specs;
 ghost use Rattle.night.specs.Pass.{Kept};
+ghost use Rattle.report.specs.Printed.{printed};
+ghost use Rattle.morning.specs.Reading.{StandsAfter, GoesOn, Prints};
 
 use night::{Night, pass, start};
 use report::print;
 use std::fs::File;
-use std::io::{IsTerminal, Read};
+use std::io::{IsTerminal, Read, Write};
 use std::process::ExitCode;
 use std::{env, fmt, io};
 
@@ -48,7 +52,9 @@ struct Told {
 
 // Reads until the piece is full, the input ends or a read fails, and returns how many bytes it put at the start of the piece.
 fn read_full<R: Read>(input: &mut R, piece: &mut [u8]) -> usize
-    ensures { result ≤ length piece.new }
+    ensures within { result ≤ length piece.new }
+    ensures size { length piece.new ≡ length piece.old }
+    ensures bytes { Consumes (R.remaining input.old) (R.remaining input.new) (take result piece.new) }
 {
     let mut done = 0;
     while done < piece.len() {
@@ -62,13 +68,17 @@ fn read_full<R: Read>(input: &mut R, piece: &mut [u8]) -> usize
 }
 
 // Where a read failed, the next read does not answer 0.
-fn is_at_end<R: Read>(input: &mut R) -> io::Result<bool> {
+fn is_at_end<R: Read>(input: &mut R) -> io::Result<bool>
+    ensures { IfOk result (λ b. b ≡ true → IsAtEnd (R.remaining input.old)) }
+{
     let mut next = [0u8; 1];
     Ok(input.read(&mut next)? == 0)
 }
 
 // How the reading stands after a piece of n bytes.
-fn stands_after<R: Read>(input: &mut R, n: usize) -> Stands {
+fn stands_after<R: Read>(input: &mut R, n: usize) -> Stands
+    ensures { StandsAfter n (R.remaining input.old) (R.remaining input.new) result }
+{
     if n == PIECE {
         return Stands::More;
     }
@@ -82,7 +92,8 @@ fn stands_after<R: Read>(input: &mut R, n: usize) -> Stands {
 // Reads one piece, and counts its blocks.
 fn read_piece<R: Read>(night: Night, input: &mut R) -> Told
     requires { Kept night × (night.totals.blocks + 128 < 2 ^ 64) }
-    ensures { Kept result.night × (result.night.totals.blocks ≤ night.totals.blocks + 128) }
+    ensures kept { Kept result.night × (result.night.totals.blocks ≤ night.totals.blocks + 128) }
+    ensures goes_on { GoesOn 1 (R.remaining input.old) (R.remaining input.new) night result.night result.stands }
 {
     let mut piece = [0u8; PIECE];
     let n = read_full(input, &mut piece);
@@ -105,7 +116,8 @@ fn tell(rt: &HostRuntime, pieces: u64, blocks: u64) {
 
 // Reads all pieces. A file of more pieces than can be counted is one that cannot be read.
 fn read_all<R: Read>(rt: &HostRuntime, input: &mut R) -> Told
-    ensures { Kept result.night }
+    ensures kept { Kept result.night }
+    ensures all { (n : ℕ) × GoesOn n (R.remaining input.old) (R.remaining input.new) specs.start result.night result.stands }
 {
     let night = start();
     let mut told = Told {
@@ -130,21 +142,24 @@ fn read_all<R: Read>(rt: &HostRuntime, input: &mut R) -> Told
 }
 
 // Writes the report, or answers why not all of it was taken.
-fn write_out(rt: &impl Print, night: Night) -> io::Result<()>
+fn write_out<W: Write>(out: &mut W, night: Night) -> io::Result<()>
     requires { Kept night }
+    ensures { OnOk result (Appends (W.contents out.old) (W.contents out.new) (printed night)) }
 {
     let mut text = [0u8; PIECE];
     let n = print(night, &mut text);
-    rt.write_all(&text[..n])
+    out.write_all(&text[..n])
 }
 
 // Prints the report of what can be read from an input, all at the end, and nothing where a read fails.
-fn mahqurith_report<R: Read>(rt: &HostRuntime, input: &mut R) -> Answer {
+fn mahqurith_report<R: Read, W: Write>(rt: &HostRuntime, input: &mut R, out: &mut W) -> Answer
+    ensures { Prints (R.remaining input.old) (W.contents out.old) (W.contents out.new) result }
+{
     let told = read_all(rt, input);
     match told.stands {
         Stands::More => Answer::Unread(io::Error::other("cannot be read")),
         Stands::Failed(e) => Answer::Unread(e),
-        Stands::All => match write_out(rt, told.night) {
+        Stands::All => match write_out(out, told.night) {
             Ok(()) => Answer::Printed,
             Err(e) => Answer::Unwritten(e),
         },
@@ -158,7 +173,7 @@ fn fail<D: fmt::Display>(rt: &impl Eprint, what: &str, why: &D) -> ExitCode {
 
 // The report of an input that is called NAME, and the exit status.
 fn run<R: Read>(rt: &HostRuntime, name: &str, input: &mut R) -> ExitCode {
-    match mahqurith_report(rt, input) {
+    match mahqurith_report(rt, input, &mut rt.stdout()) {
         Answer::Printed => ExitCode::SUCCESS,
         Answer::Unread(e) => fail(rt, name, &e),
         Answer::Unwritten(e) => fail(rt, "standard output", &e),
@@ -168,7 +183,7 @@ fn run<R: Read>(rt: &HostRuntime, name: &str, input: &mut R) -> ExitCode {
 fn main(rt: HostRuntime) -> ExitCode {
     let mut words = match env::args(&rt) {
         Ok(words) => words,
-        Err(e) => return fail(&rt, "use", &e),
+        Err(e) => return fail(&rt, "arguments", &e),
     };
     let _ = words.next();
     let first = words.next();

@@ -1,0 +1,3 @@
+mod Filled
+mod Pieces
+mod Shown
