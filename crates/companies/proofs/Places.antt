@@ -7,8 +7,7 @@ use native.Mathlib.Decide.{dec_lt}
 use native.Mathlib.Omega.{arith}
 use Rattle.octets.specs.Strings.{same, before}
 use Rattle.octets.proofs.Orders.{before_self}
-use Rattle.rows.specs.declared.Found.{Found}
-use Rattle.rows.specs.declared.Found.TheVariants.{At, Absent}
+use Rattle.std.specs.Prelude.{Result, Ok, Err}
 use Rattle.rows.specs.Row.{label_of}
 use Rattle.rows.specs.Table.{rows_fit}
 use Rattle.rows.specs.Search.{or_next, first_of, find, Parts}
@@ -60,23 +59,23 @@ module _ (count : ℕ) (rows : List ℕ) (fit : rows_fit count rows ≡ true) wh
                 here (yes g) = earlier g
                 here (no g) = let q : m ≡ n = omega arith in rw q e
 
-    parts_among : (n k : ℕ) → n ≤ count → first_of n rows label ≡ Absent k → Parts n rows label k
+    parts_among : (n k : ℕ) → n ≤ count → first_of n rows label ≡ Err k → Parts n rows label k
     unfolding first_of
     parts_among zero k h e =
         let z : 0 ≡ k = cc in
         record { within = omega arith; below = λ m l. absurd (omega arith); from = λ m g l. absurd (omega arith) }
     parts_among (suc n) k h e = go (first_of n rows label) (λ m p. parts_among n m (omega arith) p) refl e
       where
-        here : (m : ℕ) → Parts n rows label m → (t : Bool) → cond t (At n) (Absent (m + cond (before (label_of rows n) label) 1 0)) ≡ Absent k
+        here : (m : ℕ) → Parts n rows label m → (t : Bool) → cond t (Ok n) (Err (m + cond (before (label_of rows n) label) 1 0)) ≡ Err k
             → Parts (suc n) rows label k
         here m p true e = let z : ◌≡◌ {A = ℕ} 0 1 = cc in absurd (omega arith)
         here m p false e = let q : m + cond (before (label_of rows n) label) 1 0 ≡ k = cc in rw q at (one_further n m h p)
 
-        go : (f : Found) → ((m : ℕ) → first_of n rows label ≡ Absent m → Parts n rows label m) → first_of n rows label ≡ f
-            → or_next f n (label_of rows n) label ≡ Absent k → Parts (suc n) rows label k
-        go (At j) earlier p e = let z : ◌≡◌ {A = ℕ} 0 1 = cc in absurd (omega arith)
-        go (Absent m) earlier p e = here m (earlier m p) (same (label_of rows n) label) e
+        go : (f : Result ℕ ℕ) → ((m : ℕ) → first_of n rows label ≡ Err m → Parts n rows label m) → first_of n rows label ≡ f
+            → or_next f n (label_of rows n) label ≡ Err k → Parts (suc n) rows label k
+        go (Ok j) earlier p e = let z : ◌≡◌ {A = ℕ} 0 1 = cc in absurd (omega arith)
+        go (Err m) earlier p e = here m (earlier m p) (same (label_of rows n) label) e
 
-    pub parts_of : (k : ℕ) → find count rows label ≡ Absent k → Parts count rows label k
+    pub parts_of : (k : ℕ) → find count rows label ≡ Err k → Parts count rows label k
     unfolding find
     parts_of k e = parts_among count k (omega arith) (rw (fit_held count rows fit) at e)

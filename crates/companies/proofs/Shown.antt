@@ -8,8 +8,7 @@ use native.Mathlib.Omega.{arith}
 use lib.ListN.{take}
 use Rattle.octets.specs.Strings.{same, before}
 use Rattle.octets.proofs.RoundTrips.{same_is}
-use Rattle.rows.specs.declared.Found.{Found}
-use Rattle.rows.specs.declared.Found.TheVariants.{At, Absent}
+use Rattle.std.specs.Prelude.{Result, Ok, Err}
 use Rattle.rows.specs.Sizes.{label_bytes}
 use Rattle.rows.specs.Row.{label_of}
 use Rattle.rows.specs.Table.{rows_fit}
@@ -33,9 +32,9 @@ row_with label [] = none
 row_with label (row ∷ l) = cond (same (take label_bytes row) label) (some row) (row_with label l)
 
 -- the row that a search finds
-unfoldable shown : List ℕ → Found → Option (List ℕ)
-shown t (At i) = some (row_at t i)
-shown t (Absent k) = none
+unfoldable shown : List ℕ → Result ℕ ℕ → Option (List ℕ)
+shown t (Ok i) = some (row_at t i)
+shown t (Err k) = none
 
 module _ (label : List ℕ) where
   chosen : (b : Bool) (row : List ℕ) (l m n : Option (List ℕ)) → n ≡ or_this l m → cond b (some row) n ≡ or_this (cond b (some row) l) m
@@ -51,13 +50,13 @@ module _ (label : List ℕ) where
 
   -- what row n adds to a search
   shown_next :
-      (t : List ℕ) (n : ℕ) (f : Found)
+      (t : List ℕ) (n : ℕ) (f : Result ℕ ℕ)
       → or_this (shown t f) (cond (same (label_of t n) label) (some (row_at t n)) none) ≡ shown t (or_next f n (label_of t n) label)
   unfolding shown or_this
-  shown_next t n (At i) = refl
-  shown_next t n (Absent k) = go (same (label_of t n) label)
+  shown_next t n (Ok i) = refl
+  shown_next t n (Err k) = go (same (label_of t n) label)
     where
-      go : (s : Bool) → cond s (some (row_at t n)) none ≡ shown t (cond s (At n) (Absent (k + cond (before (label_of t n) label) 1 0)))
+      go : (s : Bool) → cond s (some (row_at t n)) none ≡ shown t (cond s (Ok n) (Err (k + cond (before (label_of t n) label) 1 0)))
       go true = refl
       go false = refl
 
@@ -95,16 +94,16 @@ module _ (label : List ℕ) where
     shown_found n t fit = shown-first n t ∙ ap (λ (m : ℕ). shown t (first_of m t label)) (sym (fit_held n t fit))
 
 -- a label that two tables have both or neither, and then in the same row
-pub data Sight (t u : List ℕ) (f g : Found) : Type 0 where
+pub data Sight (t u : List ℕ) (f g : Result ℕ ℕ) : Type 0 where
   neither : is_absent f ≡ true → is_absent g ≡ true → Sight t u f g
-  both : (i j : ℕ) → f ≡ At i → g ≡ At j → row_at t i ≡ row_at u j → Sight t u f g
+  both : (i j : ℕ) → f ≡ Ok i → g ≡ Ok j → row_at t i ≡ row_at u j → Sight t u f g
 
-sight : (t u : List ℕ) (f g : Found) → shown t f ≡ shown u g → Sight t u f g
+sight : (t u : List ℕ) (f g : Result ℕ ℕ) → shown t f ≡ shown u g → Sight t u f g
 unfolding shown
-sight t u (At i) (At j) e = both i j refl refl cc
-sight t u (At i) (Absent k) e = let z : ◌≡◌ {A = ℕ} 0 1 = cc in absurd (omega arith)
-sight t u (Absent k) (At j) e = let z : ◌≡◌ {A = ℕ} 0 1 = cc in absurd (omega arith)
-sight t u (Absent k) (Absent m) e = neither refl refl
+sight t u (Ok i) (Ok j) e = both i j refl refl cc
+sight t u (Ok i) (Err k) e = let z : ◌≡◌ {A = ℕ} 0 1 = cc in absurd (omega arith)
+sight t u (Err k) (Ok j) e = let z : ◌≡◌ {A = ℕ} 0 1 = cc in absurd (omega arith)
+sight t u (Err k) (Err m) e = neither refl refl
 
 -- so it is where the company's rows are the same
 pub same_sight :

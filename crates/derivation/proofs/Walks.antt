@@ -15,8 +15,7 @@ use Rattle.octets.proofs.Orders.{before_self, before_trans}
 use Rattle.octets.proofs.RoundTrips.{and_left, and_right, same_is, same_refl}
 use Rattle.rows.specs.Row.{label_of, tail_of, height_of}
 use Rattle.rows.specs.Table.{rows_fit}
-use Rattle.rows.specs.declared.Found.{Found}
-use Rattle.rows.specs.declared.Found.TheVariants.{At, Absent}
+use Rattle.std.specs.Prelude.{Result, Ok, Err}
 use Rattle.rows.proofs.Tables.{each_of}
 use Rattle.rows.proofs.Searches.{found_is, absent_is}
 use Rattle.rows.proofs.InOrder.{in_order}
@@ -87,9 +86,9 @@ module _ (old ours : Roll) (theirs-fit : rows_fit old.count old.rows ≡ true) (
   unfolding no_more
   all_passed e = each_all (λ q. not (is_absent (row_in ours old q))) old.count (λ j h. go j h (row_in ours old j) refl)
     where
-      go : (j : ℕ) → j < old.count → (f : Found) → row_in ours old j ≡ f → not (is_absent f) ≡ true
-      go j h (At i) p = refl
-      go j h (Absent n) p = absurd (behind ours.count j (omega arith) (absent_is ours.count ours.rows (theirs j) n ours-fit p).1)
+      go : (j : ℕ) → j < old.count → (f : Result ℕ ℕ) → row_in ours old j ≡ f → not (is_absent f) ≡ true
+      go j h (Ok i) p = refl
+      go j h (Err n) p = absurd (behind ours.count j (omega arith) (absent_is ours.count ours.rows (theirs j) n ours-fit p).1)
 
   -- where each label of the old roll is one of ours
   module _ (more : no_more ours old ≡ true) where
@@ -97,9 +96,9 @@ module _ (old ours : Roll) (theirs-fit : rows_fit old.count old.rows ≡ true) (
     unfolding no_more
     ours_too j h k = go (row_in ours old j) refl (each_of (λ q. not (is_absent (row_in ours old q))) old.count j h more)
       where
-        go : (f : Found) → row_in ours old j ≡ f → not (is_absent f) ≡ true → ⊥
-        go (At i) p e = let f = found_is ours.count ours.rows (theirs j) i ours-fit p in k i f.0 f.1
-        go (Absent n) p e = true≢false (sym e)
+        go : (f : Result ℕ ℕ) → row_in ours old j ≡ f → not (is_absent f) ≡ true → ⊥
+        go (Ok i) p e = let f = found_is ours.count ours.rows (theirs j) i ours-fit p in k i f.0 f.1
+        go (Err n) p e = true≢false (sym e)
 
     -- row r of ours has no later label than that of row q, where no row of ours before it has that
     not_later :
@@ -148,13 +147,13 @@ module _ (old ours : Roll) (theirs-fit : rows_fit old.count old.rows ≡ true) (
         go (no b) (no c) = omega arith
 
     -- what a search for the label of row r of ours tells of the next row
-    found_next : (r j : ℕ) → r < ours.count → row_in old ours r ≡ At j → (met old ours.rows r ≡ true) × (next r ≡ j)
+    found_next : (r j : ℕ) → r < ours.count → row_in old ours r ≡ Ok j → (met old ours.rows r ≡ true) × (next r ≡ j)
     found_next r j h p =
         let f = found_is old.count old.rows (mine r) j theirs-fit p in
         let z = next_found r j h f.0 f.1 in
         (is_there old (next r) (mine r) (omega (arith, z, f.0)) (ap theirs z ∙ f.1), z)
 
-    absent_next : (r k : ℕ) → row_in old ours r ≡ Absent k → met old ours.rows r ≡ false
+    absent_next : (r k : ℕ) → row_in old ours r ≡ Err k → met old ours.rows r ≡ false
     absent_next r k p = go (met old ours.rows r) refl
       where
         go : (t : Bool) → met old ours.rows r ≡ t → met old ours.rows r ≡ false
@@ -166,9 +165,9 @@ module _ (old ours : Roll) (theirs-fit : rows_fit old.count old.rows ≡ true) (
     pub met_has : (r : ℕ) → r < ours.count → met old ours.rows r ≡ not (is_absent (row_in old ours r))
     met_has r h = go (row_in old ours r) refl
       where
-        go : (f : Found) → row_in old ours r ≡ f → met old ours.rows r ≡ not (is_absent f)
-        go (At j) p = (found_next r j h p).0
-        go (Absent k) p = absent_next r k p
+        go : (f : Result ℕ ℕ) → row_in old ours r ≡ f → met old ours.rows r ≡ not (is_absent f)
+        go (Ok j) p = (found_next r j h p).0
+        go (Err k) p = absent_next r k p
 
     pub met_derives :
         (r : ℕ) → r < ours.count → (s : List ℕ) (n : ℕ)
@@ -176,11 +175,11 @@ module _ (old ours : Roll) (theirs-fit : rows_fit old.count old.rows ≡ true) (
     unfolding derived_from row_derived
     met_derives r h s n = go (row_in old ours r) refl
       where
-        go : (f : Found) → row_in old ours r ≡ f
+        go : (f : Result ℕ ℕ) → row_in old ours r ≡ f
             → derived_from old (next r) (met old ours.rows r) ours.rows r s n
             ≡ (eqb (counted_height old f + n) (height_of ours.rows r) && same (grown (counted_tail old f) s n) (tail_of ours.rows r))
-        go (At j) p = let f = found_next r j h p in ap₂ (λ (t : Bool) (q : ℕ). derived_from old q t ours.rows r s n) f.0 f.1
-        go (Absent k) p = ap (λ (t : Bool). derived_from old (next r) t ours.rows r s n) (absent_next r k p)
+        go (Ok j) p = let f = found_next r j h p in ap₂ (λ (t : Bool) (q : ℕ). derived_from old q t ours.rows r s n) f.0 f.1
+        go (Err k) p = ap (λ (t : Bool). derived_from old (next r) t ours.rows r s n) (absent_next r k p)
 
     pub passes_all : next ours.count ≡ old.count
     passes_all = go (dec_lt (next ours.count) old.count)

@@ -11,7 +11,7 @@ use crate::search::find_in;
 use bundle::{OLD_HEAD, next_old, old_count};
 use maker::Highest;
 use roll::{height_in, tail_in};
-use rows::{Found, LABEL, TAIL};
+use rows::{LABEL, TAIL};
 
 // The roll blocks of the old entry that begins at a place.
 pub fn roll_at(s: &[u8], at: usize) -> &[u8]
@@ -30,12 +30,12 @@ pub fn old_row(roll: &[u8], label: [u8; LABEL]) -> Highest
 {
     let found = find_in(roll, label);
     match found {
-        Found::At(q) => {
+        Ok(q) => {
             let height = height_in(roll, q);
             let tail = tail_in(roll, q);
             Highest { height, tail }
         }
-        Found::Absent(_) => Highest {
+        Err(_) => Highest {
             height: 0,
             tail: [0u8; TAIL],
         },

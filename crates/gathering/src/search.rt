@@ -12,7 +12,7 @@ ghost use Rattle.roll.specs.Places.{Spread, row_at};
 use checks::BLOCK;
 use octets::{is_same, number_at};
 use roll::count_in;
-use rows::{Found, LABEL, ROW};
+use rows::{LABEL, ROW};
 
 // The head of a block, and its row places.
 const HEAD: usize = 4;
@@ -71,16 +71,16 @@ fn parted(roll: &[u8], label: &[u8]) -> usize
 }
 
 // Finds the row of a roll that has this label, or how many have a smaller one.
-pub fn find_in(roll: &[u8], label: [u8; LABEL]) -> Found
+pub fn find_in(roll: &[u8], label: [u8; LABEL]) -> Result<usize, usize>
     requires { holds roll_layout roll.now ≡ true }
     ensures { result ≡ find (roll_layout.cut roll.now).count (roll_layout.cut roll.now).rows label }
 {
     let i = parted(roll, &label);
     if i == count_in(roll) {
-        return Found::Absent(i);
+        return Err(i);
     }
     if has_label(roll, i, &label) {
-        return Found::At(i);
+        return Ok(i);
     }
-    Found::Absent(i)
+    Err(i)
 }

@@ -21,7 +21,8 @@ use words::joined_words;
 // The bytes of the longest input.
 pub const LONGEST: usize = 65536;
 
-fn digest(message: &[u8]) -> [u8; 32]
+// SHA-256 of a message.
+pub fn digest(message: &[u8]) -> [u8; 32]
     requires { length message.now ≤ longest }
     ensures { result ≡ sha256 message.now }
 {

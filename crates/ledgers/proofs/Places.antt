@@ -8,7 +8,7 @@ use borrow.Author.Tests.{eqb-false, eq-eqb, ne_eqb}
 use Rattle.refusals.specs.{accepted, no_such_ledger, not_active}
 use Rattle.refusals.specs.Order.{first}
 use Rattle.refusals.proofs.Orders.{passes}
-use Rattle.rows.specs.declared.Found.{Found}
+use Rattle.std.specs.Prelude.{Result}
 use Rattle.rows.specs.Table.{rows_fit}
 use Rattle.rows.proofs.Tables.{fit_length, fit_count}
 use Rattle.rules.specs.Record.{active}
@@ -32,7 +32,7 @@ findable size k label e =
       holds = row.1;
     }
 
-module _ (n : ℕ) (f : Found) where
+module _ (n : ℕ) (f : Result ℕ ℕ) where
   pub placed : n ≡ accepted → place_if n f ≡ row_number f
   unfolding place_if
   placed e = rw (eq-eqb n accepted e)
@@ -42,5 +42,5 @@ module _ (n : ℕ) (f : Found) where
   unplaced h = rw (ne_eqb n accepted h)
 
 -- one answer, one place
-pub one_place : {i j : ℕ} (n m : ℕ) (f : Found) → i ≡ place_if n f → j ≡ place_if m f → n ≡ m → i ≡ j
+pub one_place : {i j : ℕ} (n m : ℕ) (f : Result ℕ ℕ) → i ≡ place_if n f → j ≡ place_if m f → n ≡ m → i ≡ j
 one_place n m f e g h = e ∙ ap (λ (l : ℕ). place_if l f) h ∙ sym g

@@ -6,7 +6,6 @@ ghost use Rattle.rules.specs.Outcomes.{Lent};
 ghost use Rattle.ledgers.specs.Tests.{found, place_if};
 
 use record::{ACTIVE, unready};
-use rows::Found;
 use rules::Head;
 
 // What a call finds out first: the first refusal and 0, or 0 and the number of the ledger's row, or of the row that it gets.
@@ -28,7 +27,7 @@ pub fn seek(head: Head, table: &[u8], label: [u8; 16], area: &[u8], size: usize)
             place: 0,
         };
     }
-    let Found::At(i) = rows::find(table, head.count as usize, label) else {
+    let Ok(i) = rows::find(table, head.count as usize, label) else {
         return Sought {
             number: refusals::NO_SUCH_LEDGER,
             place: 0,

@@ -9,13 +9,13 @@ ghost use Rattle.listing.specs.Leading.{has_label};
 
 use bundle::next_old;
 use gathering::{find_in, roll_at};
-use rows::{Found, LABEL};
+use rows::LABEL;
 
 fn has_label(roll: &[u8], label: [u8; LABEL]) -> bool
     requires { holds roll_layout roll.now ≡ true }
     ensures { result ≡ has_label roll.now label }
 {
-    let Found::At(_) = find_in(roll, label) else {
+    let Ok(_) = find_in(roll, label) else {
         return false;
     };
     true

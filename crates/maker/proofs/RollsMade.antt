@@ -19,7 +19,7 @@ use Rattle.rows.specs.Sizes.{label_bytes, tail_bytes, height_bytes, row_bytes, m
 use Rattle.rows.specs.Row.{label_of, tail_of, height_of, row_holds, row_fits}
 use Rattle.rows.specs.Table.{rises, stands, rows_fit}
 use Rattle.rows.specs.Search.{find}
-use Rattle.rows.specs.declared.Found.TheVariants.{At}
+use Rattle.std.specs.Prelude.{Ok}
 use Rattle.roll.specs.Roll.{filled}
 use Rattle.rules.specs.Rows.{is_absent}
 use Rattle.rules.proofs.RowsParts.{part_front, part_back, row_at, label_in, tail_in, height_in_row}
@@ -174,7 +174,7 @@ module _ (e : List ℕ) (held : RollsHold e) where
         let all = each_all (stands (roll_made e).rows) (row_count e) stands_there in
         rw (eq-eqb (length (roll_made e).rows) table_bytes table_long, le-leb (row_count e) most_rows few, all) rest_zero
 
-    pub made_found : (r : ℕ) → r < row_count e → find (row_count e) (roll_made e).rows (label_number e r) ≡ At r
+    pub made_found : (r : ℕ) → r < row_count e → find (row_count e) (roll_made e).rows (label_number e r) ≡ Ok r
     made_found r h = found_there (row_count e) (roll_made e).rows made_fits (label_number e r) r h (made_label r h)
 
     -- each old label has a row

@@ -16,8 +16,7 @@ use Rattle.rows.specs.Sizes.{tail_bytes, top_height}
 use Rattle.rows.specs.Row.{label_of, tail_of, height_of, row_holds}
 use Rattle.rows.specs.Table.{rows_fit}
 use Rattle.rows.specs.Search.{find}
-use Rattle.rows.specs.declared.Found.{Found}
-use Rattle.rows.specs.declared.Found.TheVariants.{At, Absent}
+use Rattle.std.specs.Prelude.{Result, Ok, Err}
 use Rattle.rows.proofs.Searches.{found_is, absent_is}
 use Rattle.statement.specs.Cut.{no_digest}
 use Rattle.rules.specs.Bundle.{old_count}
@@ -35,25 +34,25 @@ module _ (count : ℕ) (rows : List ℕ) (fit : rows_fit count rows ≡ true) wh
   pub is_there : (label : List ℕ) → Place (label_of rows) count label → is_absent (find count rows label) ≡ false
   is_there label p = go (find count rows label) refl
     where
-      go : (f : Found) → find count rows label ≡ f → is_absent f ≡ false
-      go (At q) e = refl
-      go (Absent n) e = absurd ((absent_is count rows label n fit e).1 p.place p.below p.is)
+      go : (f : Result ℕ ℕ) → find count rows label ≡ f → is_absent f ≡ false
+      go (Ok q) e = refl
+      go (Err n) e = absurd ((absent_is count rows label n fit e).1 p.place p.below p.is)
 
   pub there_is : (label : List ℕ) → is_absent (find count rows label) ≡ false → Place (label_of rows) count label
   there_is label h = go (find count rows label) refl h
     where
-      go : (f : Found) → find count rows label ≡ f → is_absent f ≡ false → Place (label_of rows) count label
-      go (At q) e k = let r = found_is count rows label q fit e in record { place = q; below = r.0; is = r.1 }
-      go (Absent n) e k = never true refl k
+      go : (f : Result ℕ ℕ) → find count rows label ≡ f → is_absent f ≡ false → Place (label_of rows) count label
+      go (Ok q) e k = let r = found_is count rows label q fit e in record { place = q; below = r.0; is = r.1 }
+      go (Err n) e k = never true refl k
 
-  pub found_there : (label : List ℕ) (r : ℕ) → r < count → label_of rows r ≡ label → find count rows label ≡ At r
+  pub found_there : (label : List ℕ) (r : ℕ) → r < count → label_of rows r ≡ label → find count rows label ≡ Ok r
   found_there label r h e = go (find count rows label) refl
     where
-      go : (f : Found) → find count rows label ≡ f → f ≡ At r
-      go (At q) p =
+      go : (f : Result ℕ ℕ) → find count rows label ≡ f → f ≡ Ok r
+      go (Ok q) p =
           let w = found_is count rows label q fit p in
-          ap At (rising_once (label_of rows) count (labels_rise count rows fit) q r w.0 h (w.1 ∙ sym e))
-      go (Absent n) p = absurd ((absent_is count rows label n fit p).1 r h e)
+          ap Ok (rising_once (label_of rows) count (labels_rise count rows fit) q r w.0 h (w.1 ∙ sym e))
+      go (Err n) p = absurd ((absent_is count rows label n fit p).1 r h e)
 
 -- a row at height 0 has the zero tail
 zero_tail : (label tail : List ℕ) (height : ℕ) → row_holds label tail height ≡ true → height ≡ 0 → all_zero tail ≡ true
@@ -98,9 +97,9 @@ module _ (e : List ℕ) (held : RollsHold e) (label : List ℕ) where
   unfolding old_height old_tail
   old_missing i h = go (find (roll_of e i).count (roll_of e i).rows label) h
     where
-      go : (f : Found) → is_absent f ≡ true → (counted_height (roll_of e i) f ≡ 0) × (counted_tail (roll_of e i) f ≡ no_digest)
-      go (At q) k = never false k refl
-      go (Absent n) k = (refl, refl)
+      go : (f : Result ℕ ℕ) → is_absent f ≡ true → (counted_height (roll_of e i) f ≡ 0) × (counted_tail (roll_of e i) f ≡ no_digest)
+      go (Ok q) k = never false k refl
+      go (Err n) k = (refl, refl)
 
   pub old_there : (i : ℕ) → 0 < old_height e label i → missing e label i ≡ false
   old_there i h = go (missing e label i) refl
@@ -117,37 +116,37 @@ module _ (e : List ℕ) (held : RollsHold e) (label : List ℕ) where
     unfolding old_tail
     old_tail_long = go (find (roll_of e i).count (roll_of e i).rows label) refl
       where
-        go : (f : Found) → find (roll_of e i).count (roll_of e i).rows label ≡ f → length (counted_tail (roll_of e i) f) ≡ tail_bytes
-        go (At q) p =
+        go : (f : Result ℕ ℕ) → find (roll_of e i).count (roll_of e i).rows label ≡ f → length (counted_tail (roll_of e i) f) ≡ tail_bytes
+        go (Ok q) p =
             let r = found_is (roll_of e i).count (roll_of e i).rows label q fit p in
             tail_long (roll_of e i).rows q (row_within (roll_of e i).count (roll_of e i).rows fit q r.0)
-        go (Absent n) p = length-replicate {A = ℕ} tail_bytes 0
+        go (Err n) p = length-replicate {A = ℕ} tail_bytes 0
 
     pub old_height_low : old_height e label i ≤ top_height
     unfolding old_height
     old_height_low = go (find (roll_of e i).count (roll_of e i).rows label) refl
       where
-        go : (f : Found) → find (roll_of e i).count (roll_of e i).rows label ≡ f → counted_height (roll_of e i) f ≤ top_height
-        go (At q) p =
+        go : (f : Result ℕ ℕ) → find (roll_of e i).count (roll_of e i).rows label ≡ f → counted_height (roll_of e i) f ≤ top_height
+        go (Ok q) p =
             let r = found_is (roll_of e i).count (roll_of e i).rows label q fit p in
             row_below (label_of (roll_of e i).rows q) (tail_of (roll_of e i).rows q) (height_of (roll_of e i).rows q)
             (row_holds_there (roll_of e i).count (roll_of e i).rows fit q r.0)
-        go (Absent n) p = omega arith
+        go (Err n) p = omega arith
 
     pub old_zero : old_height e label i ≡ 0 → old_tail e label i ≡ no_digest
     unfolding old_height old_tail
     old_zero z = go (find (roll_of e i).count (roll_of e i).rows label) refl z
       where
         go :
-            (f : Found) → find (roll_of e i).count (roll_of e i).rows label ≡ f → counted_height (roll_of e i) f ≡ 0
+            (f : Result ℕ ℕ) → find (roll_of e i).count (roll_of e i).rows label ≡ f → counted_height (roll_of e i) f ≡ 0
             → counted_tail (roll_of e i) f ≡ no_digest
-        go (At q) p z =
+        go (Ok q) p z =
             let r = found_is (roll_of e i).count (roll_of e i).rows label q fit p in
             let tail = tail_of (roll_of e i).rows q in
             let row = row_holds_there (roll_of e i).count (roll_of e i).rows fit q r.0 in
             let long = tail_long (roll_of e i).rows q (row_within (roll_of e i).count (roll_of e i).rows fit q r.0) in
             zero_is tail (zero_tail (label_of (roll_of e i).rows q) tail (height_of (roll_of e i).rows q) row z) ∙ ap (λ (n : ℕ). replicate n 0) long
-        go (Absent n) p z = refl
+        go (Err n) p z = refl
 
   -- the highest of the first n
   taken : ℕ → Bool → Highest

@@ -6,7 +6,7 @@ use Prim.Native.Nat.{ℕ}
 use Rattle.refusals.specs.{accepted}
 use Rattle.octets.specs.Strings.{all_zero}
 use Rattle.statement.specs.declared.Kind.TheVariants.{New}
-use Rattle.rows.specs.declared.Found.{Found}
+use Rattle.std.specs.Prelude.{Result}
 use Rattle.rows.specs.Row.{row_holds}
 use Rattle.statement.specs.Contents.{receipt_fits, fits_as, statement_fits}
 use Rattle.statement.specs.Cut.{no_digest}
@@ -17,7 +17,7 @@ use Rattle.ledgers.proofs.Places.{unplaced}
 
 -- a refusal leaves no place
 pub refused_so :
-    (r p n m : ℕ) (f : Found) → r ≡ n → p ≡ 0 → m ≡ n → (n ≡ accepted → ⊥) → (r ≡ m) × (p ≡ place_if r f)
+    (r p n m : ℕ) (f : Result ℕ ℕ) → r ≡ n → p ≡ 0 → m ≡ n → (n ≡ accepted → ⊥) → (r ≡ m) × (p ≡ place_if r f)
 refused_so r p n m f e z g h = (e ∙ sym g, z ∙ sym (unplaced r f (λ a. h (sym e ∙ a))))
 
 -- the statement of a new ledger fits

@@ -10,7 +10,7 @@ use crate::table::add_row;
 use ledgers::{Sought, receipt};
 use octets::is_zero;
 use record::{ACTIVE, acceptance, give, refusal, unready};
-use rows::{Found, MOST, find};
+use rows::{MOST, find};
 use rules::{Head, Told};
 use statement::{Kind, RECEIPT_SIZE};
 
@@ -49,7 +49,7 @@ fn refusal_of_new(head: Head, table: &[u8], label: [u8; 16], area: &[u8]) -> Sou
     if is_zero(&label) {
         return refused(refusals::LABEL_ZERO);
     }
-    let Found::Absent(place) = find(table, head.count as usize, label) else {
+    let Err(place) = find(table, head.count as usize, label) else {
         return refused(refusals::LEDGER_EXISTS);
     };
     if is_company_full(table, head.count as usize, label) {

@@ -1,5 +1,5 @@
-// Copying one string into another.
-ghost use Rattle.std.specs.Prelude.{◌≡◌, ◌+◌, ◌≤◌, length};
+// Copying one string into another, and parts of a fixed size out of one.
+ghost use Rattle.std.specs.Prelude.{◌≡◌, ◌+◌, ◌≤◌, length, take, drop};
 ghost use Rattle.octets.specs.Strings.{put};
 
 // Puts all of src into dst from a place on.
@@ -12,4 +12,14 @@ pub fn copy_at(dst: &mut [u8], at: usize, src: &[u8])
         dst[at + i] = src[i];
         i += 1;
     }
+}
+
+// The N bytes of a string from a place on.
+pub fn array_at<const N: usize>(s: &[u8], at: usize) -> [u8; N]
+    requires { at + N ≤ length s.now }
+    ensures { result ≡ take N (drop at s.now) }
+{
+    let mut part = [0u8; N];
+    part.copy_from_slice(&s[at..at + N]);
+    part
 }

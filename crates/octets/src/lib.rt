@@ -8,7 +8,7 @@ mod number;
 
 pub use cleared::clear;
 pub use compare::{is_before, is_same, is_zero};
-pub use copy::copy_at;
+pub use copy::{array_at, copy_at};
 pub use number::{number_at, put_number, put_word, word_at};
 
 // An answer, and how many parts were read.

@@ -11,7 +11,7 @@ use lib.Dec.{eqb, ltb}
 use Rattle.refusals.specs.{accepted, no_such_ledger, out_of_order, not_active}
 use Rattle.refusals.specs.Order.{Test, ◌⇒◌, first}
 use Rattle.refusals.proofs.Orders.{numbered, stops, goes_on, lacks, lacking}
-use Rattle.rows.specs.declared.Found.TheVariants.{At, Absent}
+use Rattle.std.specs.Prelude.{Ok, Err}
 use Rattle.rows.specs.Sizes.{most_rows, table_bytes, top_height}
 use Rattle.rows.specs.Row.{height_of}
 use Rattle.rows.specs.Table.{rows_fit}
@@ -52,12 +52,12 @@ module _ (k : Lent) (label list : List ℕ) (expected n : ℕ) (e : n ≡ first 
     fit = sound_rows k.head k.table (ready receipt_size active not_active k _ (eqb-false 4 0 refl) (sym e ∙ accepts)).0.sounds
 
     pub absent_answer :
-        (i : ℕ) → sought k label ≡ Absent i
+        (i : ℕ) → sought k label ≡ Err i
         → refusing no_such_ledger 0 ≡ refusing (append_many_refusal receipt_size k label list expected) (present_height k label)
     unfolding first
     absent_answer i f = sym (ap (λ (m : ℕ). refusing m (present_height k label)) (listed_many accepts ∙ rw (ap is_absent f)))
 
-    module _ (i : ℕ) (f : sought k label ≡ At i) where
+    module _ (i : ℕ) (f : sought k label ≡ Ok i) where
       pub found_many : append_many_refusal receipt_size k label list expected ≡ first (ordered expected (present_height k label) (entries list))
       unfolding first
       found_many = listed_many accepts ∙ rw (ap is_absent f)

@@ -11,7 +11,7 @@ ghost use Rattle.recording.specs.Tests.{listed, ordered, many_told};
 use crate::MOST_ENTRIES;
 use appending::{Moved, is_next};
 use record::{ACTIVE, refusal, unready};
-use rows::{DIGEST, Found, TOP, find, height_at};
+use rows::{DIGEST, TOP, find, height_at};
 use rules::Head;
 use statement::RECEIPT_SIZE;
 
@@ -81,7 +81,7 @@ pub fn refusal_of_many(
         let told = refusal(n, 0, head);
         return Moved { told, place: 0 };
     }
-    let Found::At(i) = find(table, head.count as usize, label) else {
+    let Ok(i) = find(table, head.count as usize, label) else {
         let told = refusal(refusals::NO_SUCH_LEDGER, 0, head);
         return Moved { told, place: 0 };
     };

@@ -1,6 +1,7 @@
 -- The answers of every call, as the contracts name them: 0 on acceptance, otherwise the refusal's number in document 01's table, with the meaning given there.
 use Rattle.std.specs.Prelude.{ℕ}
 pub mod Order
+pub mod Refused
 
 -- the call is accepted
 abbrev pub accepted : ℕ

@@ -13,31 +13,30 @@ use Rattle.octets.proofs.RoundTrips.{and_right, same_is}
 use Rattle.rows.specs.Row.{label_of, row_fits}
 use Rattle.rows.specs.Table.{rises, stands, rows_fit}
 use Rattle.rows.specs.Search.{first_of, find, Parts}
-use Rattle.rows.specs.declared.Found.{Found}
-use Rattle.rows.specs.declared.Found.TheVariants.{At, Absent}
+use Rattle.std.specs.Prelude.{Result, Ok, Err}
 use Rattle.rows.proofs.Tables.{each_of, fit-stands}
 use Rattle.rows.proofs.Searches.{fit_held, first_next, first_found}
 
 module _ (rows label : List ℕ) where
   -- as many rows as have a smaller label, where all have
-  pub all_smaller : (n : ℕ) → ((i : ℕ) → i < n → before (label_of rows i) label ≡ true) → first_of n rows label ≡ Absent n
+  pub all_smaller : (n : ℕ) → ((i : ℕ) → i < n → before (label_of rows i) label ≡ true) → first_of n rows label ≡ Err n
   unfolding first_of
   all_smaller zero below = refl
   all_smaller (suc n) below =
       rw (all_smaller n (λ i h. below i (omega arith)), before_other (label_of rows n) label (below n (omega arith)), below n (omega arith))
-      (ap Absent (add-one n))
+      (ap Err (add-one n))
 
   -- rows with greater labels change nothing
   pub none_smaller :
-      (n k m : ℕ) → first_of n rows label ≡ Absent k → n ≤ m
+      (n k m : ℕ) → first_of n rows label ≡ Err k → n ≤ m
       → ((i : ℕ) → n ≤ i → i < m → (same (label_of rows i) label ≡ false) × (before (label_of rows i) label ≡ false))
-      → first_of m rows label ≡ Absent k
+      → first_of m rows label ≡ Err k
   unfolding first_of
   none_smaller n k zero e h greater = let r : n ≡ 0 = omega arith in rw r at e
   none_smaller n k (suc m) e h greater = go (λ l. none_smaller n k m e l (λ i g o. greater i g (omega arith))) (dec_lt n (suc m))
     where
-      go : (n ≤ m → first_of m rows label ≡ Absent k) → Dec (n < suc m) → first_of (suc m) rows label ≡ Absent k
-      go earlier (yes l) = let one = greater m (omega arith) (omega arith) in rw (earlier (omega arith), one.0, one.1) (ap Absent (add-zero k))
+      go : (n ≤ m → first_of m rows label ≡ Err k) → Dec (n < suc m) → first_of (suc m) rows label ≡ Err k
+      go earlier (yes l) = let one = greater m (omega arith) (omega arith) in rw (earlier (omega arith), one.0, one.1) (ap Err (add-zero k))
       go earlier (no l) = let r : n ≡ suc m = omega arith in rw r at e
 
 module _ (count : ℕ) (rows : List ℕ) (fit : rows_fit count rows ≡ true) where
@@ -94,18 +93,18 @@ module _ (count : ℕ) (rows : List ℕ) (fit : rows_fit count rows ≡ true) wh
       unfolding find
       searched = ap (λ (n : ℕ). first_of n rows label) (fit_held count rows fit)
 
-      passed : first_of i rows label ≡ Absent i
+      passed : first_of i rows label ≡ Err i
       passed = all_smaller rows label i p.below
 
-      pub found_there : i < count → same (label_of rows i) label ≡ true → find count rows label ≡ At i
+      pub found_there : i < count → same (label_of rows i) label ≡ true → find count rows label ≡ Ok i
       found_there h e = searched ∙ first_found rows label count i i h passed e
 
-      pub absent_there : i < count → same (label_of rows i) label ≡ false → find count rows label ≡ Absent i
+      pub absent_there : i < count → same (label_of rows i) label ≡ false → find count rows label ≡ Err i
       absent_there h e = searched ∙ none_smaller rows label i i count passed (omega arith) (λ j l k. greater j l k (dec_lt i j))
         where
           greater : (j : ℕ) → i ≤ j → j < count → Dec (i < j) → (same (label_of rows j) label ≡ false) × (before (label_of rows j) label ≡ false)
           greater j l k (yes g) = later i j g k (p.from i (omega arith) h)
           greater j l k (no g) = let r : j ≡ i = omega arith in (rw r e, p.from j l k)
 
-      pub absent_last : i ≡ count → find count rows label ≡ Absent i
+      pub absent_last : i ≡ count → find count rows label ≡ Err i
       absent_last e = searched ∙ ap (λ (n : ℕ). first_of n rows label) (sym e) ∙ passed

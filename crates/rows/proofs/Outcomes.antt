@@ -6,12 +6,12 @@ use Prim.Native.Nat.{ℕ}
 use Rattle.rows.specs.Table.{rows_fit}
 use Rattle.rows.specs.Search.{find}
 use Rattle.rows.specs.Digests.{roll_digest, appended}
-use Rattle.rows.specs.declared.Found.{Found}
+use Rattle.std.specs.Prelude.{Result}
 
 pub rows_fit_once : (count : ℕ) (rows : List ℕ) (x y : Bool) → x ≡ rows_fit count rows → y ≡ rows_fit count rows → x ≡ y
 rows_fit_once count rows x y p q = cc
 
-pub find_once : (count : ℕ) (rows label : List ℕ) (x y : Found) → x ≡ find count rows label → y ≡ find count rows label → x ≡ y
+pub find_once : (count : ℕ) (rows label : List ℕ) (x y : Result ℕ ℕ) → x ≡ find count rows label → y ≡ find count rows label → x ≡ y
 find_once count rows label x y p q = cc
 
 pub roll_digest_once : (count : ℕ) (rows x y : List ℕ) → x ≡ roll_digest count rows → y ≡ roll_digest count rows → x ≡ y

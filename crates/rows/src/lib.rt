@@ -35,10 +35,3 @@ pub const TABLE: usize = MOST * ROW;
 
 // The greatest height.
 pub const TOP: u64 = 4294967295;
-
-// What a search for a label finds: the number of the row that has it, or else how many rows have a smaller one.
-#[derive(Clone, Copy)]
-pub enum Found {
-    At(usize),
-    Absent(usize),
-}

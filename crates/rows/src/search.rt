@@ -6,7 +6,7 @@ ghost use Rattle.rows.specs.Row.{label_of};
 ghost use Rattle.rows.specs.Table.{rows_fit};
 ghost use Rattle.rows.specs.Search.{held, find, Parts};
 
-use crate::{Found, HALF, LABEL, MOST, ROW};
+use crate::{HALF, LABEL, MOST, ROW};
 
 // How many rows a string holds of those that the count says.
 pub fn held(rows: &[u8], count: usize) -> usize
@@ -66,16 +66,16 @@ fn parted(table: &[u8], count: usize, label: &[u8]) -> usize
 }
 
 // Finds the row with this label in a table known to be sound, or how many have a smaller one: by halves.
-pub fn find(table: &[u8], count: usize, label: [u8; LABEL]) -> Found
+pub fn find(table: &[u8], count: usize, label: [u8; LABEL]) -> Result<usize, usize>
     requires { rows_fit count table.now ≡ true }
     ensures { result ≡ find count table.now label }
 {
     let i = parted(table, count, &label);
     if i == count {
-        return Found::Absent(i);
+        return Err(i);
     }
     if has_label(table, i, &label) {
-        return Found::At(i);
+        return Ok(i);
     }
-    Found::Absent(i)
+    Err(i)
 }

@@ -9,8 +9,7 @@ use borrow.Author.Tests.{eqb-true}
 use lib.Dec.{eqb}
 use Rattle.octets.specs.Strings.{same}
 use Rattle.octets.proofs.RoundTrips.{and_left, and_right, same_is}
-use Rattle.rows.specs.declared.Found.{Found}
-use Rattle.rows.specs.declared.Found.TheVariants.{Absent}
+use Rattle.std.specs.Prelude.{Result, Err}
 use Rattle.rows.specs.Row.{tail_of, height_of}
 use Rattle.rows.specs.Table.{each}
 use Rattle.rows.proofs.Tables.{and_false, each_fails, each_of}
@@ -34,7 +33,7 @@ module _ (ours : Roll) (s : List ℕ) where
 
   -- the digests listed for a row that old roll i lacks lead from height 0 and the zero tail to ours
   pub missing_starts :
-      (i r k : ℕ) → i < old_count s → r < ours.count → row_in (roll_of s i) ours r ≡ Absent k → derived ours s ≡ true
+      (i r k : ℕ) → i < old_count s → r < ours.count → row_in (roll_of s i) ours r ≡ Err k → derived ours s ≡ true
       → (added s (list_of ours.count i r) ≡ height_of ours.rows r)
       × (grown no_digest (digests s (list_of ours.count i r)) (added s (list_of ours.count i r)) ≡ tail_of ours.rows r)
   unfolding derived roll_derived row_derived
@@ -46,11 +45,11 @@ module _ (ours : Roll) (s : List ℕ) where
       let all = and_left rolls (each (had_elsewhere ours s) (old_count s)) (and_left led (each (kept_by_some ours s) ours.count) d) in
       let test : ℕ → Bool = λ q. row_derived ours old q (digests s (list_of ours.count i q)) (added s (list_of ours.count i q)) in
       let rows = and_right (no_more ours old) (each test ours.count) (each_of (roll_derived ours s) (old_count s) i h all) in
-      let a : Found → Bool = λ f. eqb (counted_height old f + n) (height_of ours.rows r) in
-      let b : Found → Bool = λ f. same (grown (counted_tail old f) ds n) (tail_of ours.rows r) in
-      let e : (a (Absent k) && b (Absent k)) ≡ true = subst (λ (f : Found). (a f && b f) ≡ true) x (each_of test ours.count r l rows) in (
-        omega (arith, eqb-true (0 + n) (height_of ours.rows r) (and_left (a (Absent k)) (b (Absent k)) e)),
-        same_is (grown no_digest ds n) (tail_of ours.rows r) (and_right (a (Absent k)) (b (Absent k)) e),
+      let a : Result ℕ ℕ → Bool = λ f. eqb (counted_height old f + n) (height_of ours.rows r) in
+      let b : Result ℕ ℕ → Bool = λ f. same (grown (counted_tail old f) ds n) (tail_of ours.rows r) in
+      let e : (a (Err k) && b (Err k)) ≡ true = subst (λ (f : Result ℕ ℕ). (a f && b f) ≡ true) x (each_of test ours.count r l rows) in (
+        omega (arith, eqb-true (0 + n) (height_of ours.rows r) (and_left (a (Err k)) (b (Err k)) e)),
+        same_is (grown no_digest ds n) (tail_of ours.rows r) (and_right (a (Err k)) (b (Err k)) e),
       )
 
   -- another old roll than i has row r

@@ -12,8 +12,7 @@ use Rattle.rows.specs.Sizes.{top_height}
 use Rattle.rows.specs.Row.{label_of, tail_of, height_of, row_holds, row_fits}
 use Rattle.rows.specs.Table.{rises, stands, rows_fit}
 use Rattle.rows.specs.Search.{or_next, first_of, find}
-use Rattle.rows.specs.declared.Found.{Found}
-use Rattle.rows.specs.declared.Found.TheVariants.{At, Absent}
+use Rattle.std.specs.Prelude.{Result, Ok, Err}
 use Rattle.rows.proofs.Tables.{each_of, fit-stands}
 use Rattle.rows.proofs.Searches.{found_is}
 use Rattle.rules.specs.Rows.{is_absent, row_number}
@@ -23,7 +22,7 @@ pub first_same : (a b label : List ℕ) (n : ℕ) → ((j : ℕ) → j < n → l
 unfolding first_of
 first_same a b label zero e = refl
 first_same a b label (suc n) e =
-    ap₂ (λ (f : Found) (l : List ℕ). or_next f n l label) (first_same a b label n (λ j h. e j (omega arith))) (e n (omega arith))
+    ap₂ (λ (f : Result ℕ ℕ) (l : List ℕ). or_next f n l label) (first_same a b label n (λ j h. e j (omega arith))) (e n (omega arith))
 
 pub stands_row : (rows : List ℕ) (i : ℕ) → stands rows i ≡ true → row_holds (label_of rows i) (tail_of rows i) (height_of rows i) ≡ true
 unfolding row_fits stands
@@ -36,12 +35,12 @@ pub row_found :
     × (row_holds label (tail_of rows (row_number (find count rows label))) (height_of rows (row_number (find count rows label))) ≡ true)
 row_found count rows label fit there = go (find count rows label) refl there
   where
-    go : (f : Found) → find count rows label ≡ f → is_absent f ≡ false
+    go : (f : Result ℕ ℕ) → find count rows label ≡ f → is_absent f ≡ false
         → (row_number f < count) × (row_holds label (tail_of rows (row_number f)) (height_of rows (row_number f)) ≡ true)
-    go (At i) p e =
+    go (Ok i) p e =
         let r = found_is count rows label i fit p in
         (r.0, rw r.1 at (stands_row rows i (each_of (stands rows) count i r.0 (fit-stands count rows fit))))
-    go (Absent k) p e = let z : ◌≡◌ {A = ℕ} 0 1 = cc in absurd (omega arith)
+    go (Err k) p e = let z : ◌≡◌ {A = ℕ} 0 1 = cc in absurd (omega arith)
 
 module _ (label tail : List ℕ) (height : ℕ) where
   pub row_labelled : row_holds label tail height ≡ true → all_zero label ≡ false

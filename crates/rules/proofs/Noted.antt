@@ -9,8 +9,7 @@ use lib.ListN.{length}
 use lib.Dec.{eqb, leb, ltb}
 use Rattle.octets.specs.Strings.{all_zero}
 use Rattle.octets.proofs.RoundTrips.{and_left, and_right}
-use Rattle.rows.specs.declared.Found.{Found}
-use Rattle.rows.specs.declared.Found.TheVariants.{At, Absent}
+use Rattle.std.specs.Prelude.{Result, Ok, Err}
 use Rattle.rows.specs.Sizes.{top_height, row_bytes, table_bytes, most_rows}
 use Rattle.rows.specs.Row.{row_holds}
 use Rattle.rows.specs.Table.{rows_fit}
@@ -36,7 +35,7 @@ row_of k label = row_number (sought k label)
 
 pub record Rowed (k : Lent) (label : List ℕ) : Type 0 where
   pub was : k.head.status ≡ active
-  pub found : sought k label ≡ At (row_of k label)
+  pub found : sought k label ≡ Ok (row_of k label)
   pub long : length k.table ≡ table_bytes
   pub within : row_bytes * row_of k label + row_bytes ≤ length k.table
   pub holds : row_holds label (present_tail k label) (present_height k label) ≡ true
@@ -44,8 +43,8 @@ pub record Rowed (k : Lent) (label : List ℕ) : Type 0 where
 pub rowed : (size : ℕ) (k : Lent) (label : List ℕ) → Ready size active k → is_absent (sought k label) ≡ false → Rowed k label
 rowed size k label r there = go (sought k label) refl there
   where
-    go : (f : Found) → sought k label ≡ f → is_absent f ≡ false → Rowed k label
-    go (At i) p e =
+    go : (f : Result ℕ ℕ) → sought k label ≡ f → is_absent f ≡ false → Rowed k label
+    go (Ok i) p e =
         let n : row_number (sought k label) ≡ i = ap row_number p in
         let fit = sound_rows k.head k.table r.sounds in
         let w = found_is k.head.count k.table label i fit p in
@@ -53,26 +52,26 @@ rowed size k label r there = go (sought k label) refl there
         let long = fit_length k.head.count k.table fit in
         record {
           was = r.acts;
-          found = p ∙ ap At (sym n);
+          found = p ∙ ap Ok (sym n);
           long = long;
           within = omega (arith, w.0);
           holds = (row_found k.head.count k.table label fit there).1;
         }
-    go (Absent n) p e = let z : ◌≡◌ {A = Bool} true false = e in let y : ◌≡◌ {A = ℕ} 0 1 = cc in absurd (omega arith)
+    go (Err n) p e = let z : ◌≡◌ {A = Bool} true false = e in let y : ◌≡◌ {A = ℕ} 0 1 = cc in absurd (omega arith)
 
 pub record Makeable (k : Lent) (label : List ℕ) : Type 0 where
   pub room : receipt_size ≤ length k.area
   pub was : k.head.status ≡ active
   pub fit : rows_fit k.head.count k.table ≡ true
   pub labelled : all_zero label ≡ false
-  pub new : sought k label ≡ Absent (row_of k label)
+  pub new : sought k label ≡ Err (row_of k label)
   pub place : row_of k label ≤ k.head.count
   pub own-few : own k label < most_of_one
   pub few : k.head.count < most_rows
 
-absent_so : (f : Found) → not (is_absent f) ≡ false → f ≡ Absent (row_number f)
-absent_so (At i) e = let z : ◌≡◌ {A = Bool} true false = e in cc
-absent_so (Absent n) e = refl
+absent_so : (f : Result ℕ ℕ) → not (is_absent f) ≡ false → f ≡ Err (row_number f)
+absent_so (Ok i) e = let z : ◌≡◌ {A = Bool} true false = e in cc
+absent_so (Err n) e = refl
 
 pub makeable : (k : Lent) (label : List ℕ) → new_refusal k label ≡ accepted → Makeable k label
 unfolding new_refusal
@@ -83,7 +82,7 @@ makeable k label e =
     let o = passes (leb most_of_one (own k label)) company_full _ (eqb-false 39 0 refl) b.1 in
     let c = passes (eqb k.head.count most_rows) table_full _ (eqb-false 13 0 refl) o.1 in
     let fit : rows_fit k.head.count k.table ≡ true = sound_rows k.head k.table r.0.sounds in
-    let new : sought k label ≡ Absent (row_of k label) = absent_so (sought k label) b.0 in
+    let new : sought k label ≡ Err (row_of k label) = absent_so (sought k label) b.0 in
     let full : (k.head.count ≡ most_rows → ⊥) = eqb-false k.head.count most_rows c.0 in
     record {
       room = r.0.room;

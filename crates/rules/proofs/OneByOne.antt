@@ -14,7 +14,7 @@ use Rattle.refusals.proofs.Orders.{numbered, passes, first_then, none_refuses, l
 use Rattle.octets.specs.Strings.{put}
 use Rattle.octets.proofs.Numbers.{bytes_length}
 use Rattle.hash.proofs.Promised.{sha256-length}
-use Rattle.rows.specs.declared.Found.TheVariants.{At}
+use Rattle.std.specs.Prelude.{Ok}
 use Rattle.rows.specs.Sizes.{tail_bytes, top_height}
 use Rattle.rows.specs.Row.{label_of, tail_of, height_of, row_holds}
 use Rattle.rows.specs.Table.{rows_fit}
@@ -118,7 +118,7 @@ module _ (k : Lent) (label list : List ℕ) (expected : ℕ) (b : Based k label 
     ready_after : Ready receipt_size active (left_after (suc n))
     ready_after = record { room = roomy; sounds = sounds; acts = b.ready.acts }
 
-    found_after : sought (left_after (suc n)) label ≡ At (row_of k label)
+    found_after : sought (left_after (suc n)) label ≡ Ok (row_of k label)
     found_after = find_stays k.table (row_of k label) (tail_after (suc n)) (height_after (suc n)) b.has.within (tail_sized n) k.head.count label ∙ b.has.found
 
     tail_there : present_tail (left_after (suc n)) label ≡ tail_after (suc n)

@@ -4,8 +4,7 @@
 -- another old roll in the bundle has it; the rest of the derivation stays, so some roll that does have the row must add none."
 use Rattle.std.specs.Prelude.{Bool, false, not, ◌&&◌, ◌||◌, List, ℕ, zero, suc, ◌+◌, ◌*◌, take, drop, eqb}
 use Rattle.octets.specs.Strings.{same}
-use Rattle.rows.specs.declared.Found.{Found}
-use Rattle.rows.specs.declared.Found.TheVariants.{At, Absent}
+use Rattle.std.specs.Prelude.{Result, Ok, Err}
 use Rattle.rows.specs.Row.{label_of, tail_of, height_of}
 use Rattle.rows.specs.Table.{each}
 use Rattle.rows.specs.Search.{find}
@@ -22,7 +21,7 @@ some test zero = false
 some test (suc n) = some test n || test n
 
 -- the row of a roll that has the label of row r of another
-abbrev pub row_in : Roll → Roll → ℕ → Found
+abbrev pub row_in : Roll → Roll → ℕ → Result ℕ ℕ
 row_in old ours r = find old.count old.rows (label_of ours.rows r)
 
 -- "no more": each label of the old roll is one of ours
@@ -35,13 +34,13 @@ grown tail s zero = tail
 grown tail s (suc n) = appended (grown tail s n) (take digest_bytes (drop (digest_bytes * n) s))
 
 -- "A row missing from an old roll shall count as height 0 with the zero tail"
-abbrev pub counted_height : Roll → Found → ℕ
-counted_height old (At q) = height_of old.rows q
-counted_height old (Absent n) = 0
+abbrev pub counted_height : Roll → Result ℕ ℕ → ℕ
+counted_height old (Ok q) = height_of old.rows q
+counted_height old (Err n) = 0
 
-abbrev pub counted_tail : Roll → Found → List ℕ
-counted_tail old (At q) = tail_of old.rows q
-counted_tail old (Absent n) = no_digest
+abbrev pub counted_tail : Roll → Result ℕ ℕ → List ℕ
+counted_tail old (Ok q) = tail_of old.rows q
+counted_tail old (Err n) = no_digest
 
 -- "its height plus the count equals ours and appending the listed digests to its tail gives our tail": for row r of ours, with n digests in a string
 unfoldable pub row_derived : Roll → Roll → ℕ → List ℕ → ℕ → Bool

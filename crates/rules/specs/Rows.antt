@@ -1,7 +1,6 @@
 -- The ledger that a label names in a keeper's table, and its row as the statements show it.
 use Rattle.std.specs.Prelude.{Bool, true, false, List, ℕ}
-use Rattle.rows.specs.declared.Found.{Found}
-use Rattle.rows.specs.declared.Found.TheVariants.{At, Absent}
+use Rattle.std.specs.Prelude.{Result, Ok, Err}
 use Rattle.rows.specs.Row.{tail_of, height_of}
 use Rattle.rows.specs.Search.{find}
 use Rattle.statement.specs.declared.Kind.{Kind}
@@ -10,17 +9,17 @@ use Rattle.statement.specs.Cut.{no_digest}
 use Rattle.rules.specs.declared.Head.{Head}
 use Rattle.rules.specs.Outcomes.{Lent}
 
-abbrev pub is_absent : Found → Bool
-is_absent (At i) = false
-is_absent (Absent n) = true
+abbrev pub is_absent : Result ℕ ℕ → Bool
+is_absent (Ok i) = false
+is_absent (Err n) = true
 
 -- the row's number; where there is none, the number that it gets, as many rows having a smaller label
-abbrev pub row_number : Found → ℕ
-row_number (At i) = i
-row_number (Absent n) = n
+abbrev pub row_number : Result ℕ ℕ → ℕ
+row_number (Ok i) = i
+row_number (Err n) = n
 
 -- the search for a label in a keeper's roll
-abbrev pub sought : Lent → List ℕ → Found
+abbrev pub sought : Lent → List ℕ → Result ℕ ℕ
 sought k label = find k.head.count k.table label
 
 abbrev pub present_tail : Lent → List ℕ → List ℕ

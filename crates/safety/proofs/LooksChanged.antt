@@ -6,7 +6,7 @@ use Prim.Native.Nat.{ℕ, zero, suc, ◌+◌, ◌*◌, ◌^◌, ◌≤◌, ◌<�
 use native.Mathlib.Decide.{dec_lt}
 use native.Mathlib.Omega.{arith}
 use lib.ListN.{length}
-use Rattle.rows.specs.declared.Found.TheVariants.{At, Absent}
+use Rattle.std.specs.Prelude.{Ok, Err}
 use Rattle.rows.specs.Sizes.{label_bytes, tail_bytes, height_bytes, row_bytes, most_rows}
 use Rattle.rows.specs.Row.{label_of, tail_of, height_of}
 use Rattle.rows.specs.Table.{rows_fit}
@@ -26,7 +26,7 @@ use Rattle.safety.proofs.Looks.{none_earlier, found_first, look_at, ShownAt, sho
 -- a row that is found where it was, or elsewhere, and is as it was
 as_before :
     (v w : Roll) (label : List ℕ) (height : ℕ) (tail : List ℕ) (i j : ℕ) → height_of v.rows i ≡ height → tail_of v.rows i ≡ tail
-    → find w.count w.rows label ≡ At j → row_at w.rows j ≡ row_at v.rows i → Reaches w label height tail
+    → find w.count w.rows label ≡ Ok j → row_at w.rows j ≡ row_at v.rows i → Reaches w label height tail
 as_before v w label height tail i j h t found e =
     stands_still w label height tail
     (look_at w label j found
@@ -43,7 +43,7 @@ module _ (count : ℕ) (rows : List ℕ) (i : ℕ) (tail : List ℕ) (height : �
   finds = moves.find_stays rows i tail height within sized count
 
   module _ (small : height < 256 ^ height_bytes) where
-    pub moved_shows : (label : List ℕ) → find count rows label ≡ At i → look after label ≡ standing height tail
+    pub moved_shows : (label : List ℕ) → find count rows label ≡ Ok i → look after label ≡ standing height tail
     moved_shows label e =
         look_at after label i (finds label ∙ e)
         ∙ ap₂ standing (moves.height-moved rows i tail height within sized small) (moves.tail-moved rows i tail height within sized)
@@ -62,13 +62,13 @@ module _ (count : ℕ) (rows : List ℕ) (i : ℕ) (tail : List ℕ) (height : �
             record {
               top = height;
               last = tail;
-              shows = moved_shows label (s.found ∙ ap At e);
+              shows = moved_shows label (s.found ∙ ap Ok e);
               up = omega arith;
               agrees = λ x. absurd (omega arith);
             }
 
 module _ (count : ℕ) (rows label : List ℕ) (i : ℕ) (fit : rows_fit count rows ≡ true) (room : count < most_rows) (sized : length label ≡ label_bytes)
-    (new : find count rows label ≡ Absent i) where
+    (new : find count rows label ≡ Err i) where
   place : i ≤ count
   place = (absent_is count rows label i fit new).0
 
@@ -84,7 +84,7 @@ module _ (count : ℕ) (rows label : List ℕ) (i : ℕ) (fit : rows_fit count r
   within : row_bytes * i + row_bytes ≤ length rows
   within = omega (arith, place, fit_length count rows fit)
 
-  wide_finds : (sought : List ℕ) (j : ℕ) → first_of (count + 1) (widened rows i label) sought ≡ At j → find (count + 1) (widened rows i label) sought ≡ At j
+  wide_finds : (sought : List ℕ) (j : ℕ) → first_of (count + 1) (widened rows i label) sought ≡ Ok j → find (count + 1) (widened rows i label) sought ≡ Ok j
   unfolding find
   wide_finds sought j e =
       let l = widened-length rows i label in
@@ -106,7 +106,7 @@ module _ (count : ℕ) (rows label : List ℕ) (i : ℕ) (fit : rows_fit count r
       ∙ ap₂ standing (widens.height_new rows label i within sized) (widens.tail_new rows label i within sized)
 
   -- a row of another label stands at its old place or at the next
-  module _ (other : List ℕ) (j : ℕ) (found : find count rows other ≡ At j) where
+  module _ (other : List ℕ) (j : ℕ) (found : find count rows other ≡ Ok j) where
     earlier : (m : ℕ) → m < j → label_of rows m ≡ other → ⊥
     unfolding find
     earlier = (none_is rows other j _ (none_earlier rows other (held count rows) j found)).1
@@ -114,7 +114,7 @@ module _ (count : ℕ) (rows label : List ℕ) (i : ℕ) (fit : rows_fit count r
     differs : label ≡ other → ⊥
     differs e = let w = found_is count rows other j fit found in unknown j w.0 (w.1 ∙ sym e)
 
-    stays_before : j < i → find (count + 1) (widened rows i label) other ≡ At j
+    stays_before : j < i → find (count + 1) (widened rows i label) other ≡ Ok j
     stays_before h =
         let w = found_is count rows other j fit found in
         wide_finds other j
@@ -131,7 +131,7 @@ module _ (count : ℕ) (rows label : List ℕ) (i : ℕ) (fit : rows_fit count r
         let w = found_is count rows other j fit found in
         earlier m (omega arith) (sym (same_label (widened rows i label) rows (suc m) m (row_after m (omega arith) (omega (arith, w.0)))) ∙ e)
 
-    goes_behind : i ≤ j → find (count + 1) (widened rows i label) other ≡ At (suc j)
+    goes_behind : i ≤ j → find (count + 1) (widened rows i label) other ≡ Ok (suc j)
     goes_behind h =
         let w = found_is count rows other j fit found in
         wide_finds other (suc j)

@@ -7,8 +7,7 @@ use lib.ListN.{take, drop}
 use Rattle.octets.specs.Numbers.{number_of}
 use Rattle.rows.specs.Sizes.{label_bytes, tail_bytes, height_bytes, row_bytes}
 use Rattle.rows.specs.Row.{label_of, tail_of, height_of}
-use Rattle.rows.specs.declared.Found.{Found}
-use Rattle.rows.specs.declared.Found.TheVariants.{At, Absent}
+use Rattle.std.specs.Prelude.{Result, Ok, Err}
 use Rattle.rows.specs.Search.{held, or_next, first_of, find}
 use Rattle.rows.specs.Digests.{roll_string}
 use Rattle.rows.proofs.Searches.{first_is}
@@ -75,14 +74,14 @@ module _ (n : ℕ) (a b : List ℕ) (e : take (row_bytes * n) a ≡ take (row_by
   unfolding first_of
   first_same zero label h = refl
   first_same (suc m) label h =
-      ap₂ (λ (f : Found) (l : List ℕ). or_next f m l label) (first_same m label (omega arith)) (label_same m h)
+      ap₂ (λ (f : Result ℕ ℕ) (l : List ℕ). or_next f m l label) (first_same m label (omega arith)) (label_same m h)
 
-  seen_same : (f : Found) (label : List ℕ) → first_of n a label ≡ f → seen_at a f ≡ seen_at b f
+  seen_same : (f : Result ℕ ℕ) (label : List ℕ) → first_of n a label ≡ f → seen_at a f ≡ seen_at b f
   unfolding seen_at
-  seen_same (At i) label h =
+  seen_same (Ok i) label h =
       let below = (first_is a label n i h).0 in
       ap₂ standing (height_same i below) (tail_same i below)
-  seen_same (Absent k) label h = refl
+  seen_same (Err k) label h = refl
 
   find_same : (label : List ℕ) → seen_at a (first_of n a label) ≡ seen_at b (first_of n b label)
   find_same label = seen_same (first_of n a label) label refl ∙ ap (seen_at b) (first_same n label (omega arith))

@@ -3,8 +3,7 @@ use mathlib.Core.Path.{◌≡◌}
 use mathlib.Core.List.{List, [], ◌∷◌}
 use Prim.Native.Nat.{ℕ, suc, ◌≤◌, ◌<◌}
 use Rattle.rack.specs.Racks.{rack_cut, rack_string, rack_digest, majority}
-use Rattle.rows.specs.declared.Found.{Found}
-use Rattle.rows.specs.declared.Found.TheVariants.{At, Absent}
+use Rattle.std.specs.Prelude.{Result, Ok, Err}
 use Rattle.rows.specs.Row.{tail_of, height_of}
 use Rattle.rows.specs.Search.{find}
 use Rattle.rows.specs.Digests.{roll_string, roll_digest}
@@ -32,9 +31,9 @@ pub data Seen : Type 0 where
   nothing : Seen
   standing : (height : ℕ) (tail : List ℕ) → Seen
 
-unfoldable pub seen_at : List ℕ → Found → Seen
-seen_at rows (At i) = standing (height_of rows i) (tail_of rows i)
-seen_at rows (Absent k) = nothing
+unfoldable pub seen_at : List ℕ → Result ℕ ℕ → Seen
+seen_at rows (Ok i) = standing (height_of rows i) (tail_of rows i)
+seen_at rows (Err k) = nothing
 
 unfoldable pub look : Roll → List ℕ → Seen
 look v label = seen_at v.rows (find v.count v.rows label)

@@ -10,8 +10,7 @@ use Rattle.octets.specs.Layouts.{holds}
 use Rattle.octets.proofs.RoundTrips.{same_refl}
 use Rattle.rack.specs.Racks.{majority, rack_string}
 use Rattle.marks.specs.Entries.{goes_up, entry_fits, entries_fit, mark_tests, marks_tests}
-use Rattle.rows.specs.declared.Found.{Found}
-use Rattle.rows.specs.declared.Found.TheVariants.{At}
+use Rattle.std.specs.Prelude.{Result, Ok}
 use Rattle.rows.specs.Row.{tail_of, height_of}
 use Rattle.rows.specs.Table.{each}
 use Rattle.rows.specs.Search.{find}
@@ -115,14 +114,14 @@ module _ {p : Page} (k : Kept p) (i : ℕ) (e : old_roll bundle i ≡ p.block) w
 
 -- the row of a page's roll grows into that of rack B's
 module _ {p : Page} (k : Kept p) where
-  row_there : row_in (roll_on p) (roll_on grown) 0 ≡ At 0
+  row_there : row_in (roll_on p) (roll_on grown) 0 ≡ Ok 0
   row_there = ap (find 1 p.table) grown_kept.label_is ∙ k.found
 
   no_more_there : no_more (roll_on grown) (roll_on p) ≡ true
   unfolding no_more
   no_more_there =
       each_one (λ q. not (is_absent (row_in (roll_on grown) (roll_on p) q)))
-      (ap (λ (f : Found). not (is_absent f)) (ap (find 1 grown_table) k.label_is ∙ grown_kept.found))
+      (ap (λ (f : Result ℕ ℕ). not (is_absent f)) (ap (find 1 grown_table) k.label_is ∙ grown_kept.found))
 
   row_derives : (s : List ℕ) (n : ℕ) → p.height + n ≡ 1 → grown-by p.tail s n ≡ new_tail → row_derived (roll_on grown) (roll_on p) 0 s n ≡ true
   unfolding row_derived

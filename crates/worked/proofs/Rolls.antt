@@ -12,7 +12,7 @@ use Rattle.octets.proofs.Parts.{four_read}
 use Rattle.octets.proofs.RoundTrips.{same_refl}
 use Rattle.hash.specs.Sha256.{sha256}
 use Rattle.hash.proofs.Promised.{sha256-length}
-use Rattle.rows.specs.declared.Found.TheVariants.{At, Absent}
+use Rattle.std.specs.Prelude.{Ok, Err}
 use Rattle.rows.specs.Row.{label_of, tail_of, height_of, row_holds, row_fits}
 use Rattle.rows.specs.Table.{each, rises, stands, rows_fit}
 use Rattle.rows.specs.Search.{held, first_of, find}
@@ -47,7 +47,7 @@ roll_on p = record { count = 1; rows = p.table }
 -- it is all that
 pub record Kept (p : Page) : Type 0 where
   pub fits : rows_fit 1 p.table ≡ true
-  pub found : find 1 p.table ledger ≡ At 0
+  pub found : find 1 p.table ledger ≡ Ok 0
   pub label_is : label_of p.table 0 ≡ ledger
   pub tail_is : tail_of p.table 0 ≡ p.tail
   pub height_is : height_of p.table 0 ≡ p.height
@@ -107,7 +107,7 @@ pub empty_fits : rows_fit 0 empty_table ≡ true
 unfolding tables
 empty_fits = refl
 
-pub none_found : find 0 empty_table ledger ≡ Absent 0
+pub none_found : find 0 empty_table ledger ≡ Err 0
 unfolding tables
 none_found = refl
 

@@ -8,7 +8,7 @@ use lib.ListN.{length, replicate}
 use lib.Dec.{eqb}
 use Rattle.octets.specs.Numbers.{number_of, bytes_of}
 use Rattle.octets.specs.Strings.{all_zero}
-use Rattle.rows.specs.declared.Found.{Found}
+use Rattle.std.specs.Prelude.{Result}
 use Rattle.rows.specs.Sizes.{table_bytes}
 use Rattle.rows.specs.Row.{tail_of, height_of}
 use Rattle.rows.specs.Search.{find}
@@ -83,7 +83,7 @@ makes_so who =
       outcome_is =
           takes_effect _ _ _ _
           (lets_all
-          (also refl (also (ap not empty_fits) (also refl (also refl (also (ap (λ (f : Found). not (is_absent f)) none_found)
+          (also refl (also (ap not empty_fits) (also refl (also refl (also (ap (λ (f : Result ℕ ℕ). not (is_absent f)) none_found)
           (also refl (also refl end))))))))
           ∙ (λ i.
           given (statement_written (receipt_of (founded who).head New ledger no_digest)) (keeping who young).head
@@ -94,10 +94,10 @@ makes_so who =
 -- the row that a keeper's search finds
 module _ {p : Page} (k : Kept p) where
   height_there : height_of p.table (row_number (find 1 p.table ledger)) ≡ p.height
-  height_there = ap (λ (f : Found). height_of p.table (row_number f)) k.found ∙ k.height_is
+  height_there = ap (λ (f : Result ℕ ℕ). height_of p.table (row_number f)) k.found ∙ k.height_is
 
   tail_there : tail_of p.table (row_number (find 1 p.table ledger)) ≡ p.tail
-  tail_there = ap (λ (f : Found). tail_of p.table (row_number f)) k.found ∙ k.tail_is
+  tail_there = ap (λ (f : Result ℕ ℕ). tail_of p.table (row_number f)) k.found ∙ k.tail_is
 
 -- Append
 next_there : appended (tail_of young_table (row_number (find 1 young_table ledger))) entry ≡ new_tail

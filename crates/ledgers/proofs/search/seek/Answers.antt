@@ -45,7 +45,7 @@ returns c =
     let a = searched.args in
     let k : Lent = record { head = a.head; table = a.table.now; area = a.area.now } in
     let u = searched.unready-n in
-    let there = sym searched.find.ensures ∙ c.in-At.is in
+    let there = sym searched.find.ensures ∙ c.in-Ok.is in
     record {
       number = sym (ready_first a.size k _ u.result u.ensures searched.if-n-ne-ACCEPTED.false ∙ rw there);
       place = ap row_number (sym there);

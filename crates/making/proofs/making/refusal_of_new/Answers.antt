@@ -7,8 +7,7 @@ use Rattle.statement.specs.Kinds.{receipt_size}
 use lib.Dec.{eqb, leb}
 use Rattle.refusals.specs.{ledger_exists, company_full, table_full}
 use Rattle.refusals.specs.Order.{◌⇒◌, first}
-use Rattle.rows.specs.declared.Found.{Found}
-use Rattle.rows.specs.declared.Found.TheVariants.{Absent}
+use Rattle.std.specs.Prelude.{Result, Err}
 use Rattle.rows.specs.Sizes.{most_rows}
 use Rattle.rows.proofs.Tables.{fit_length, fit_count}
 use Rattle.rules.specs.Outcomes.{Lent}
@@ -20,7 +19,7 @@ use Rattle.ledgers.specs.Tests.{place_if}
 use Rattle.ledgers.proofs.Actives.{unready_first, ready_first, ready_rows}
 use Rattle.making.proofs.Makes.{refused_so}
 use Rattle.making.proofs.making.refusal_of_new.Goals as goal
-use Rattle.making.proofs.making.refusal_of_new.Goals.{Else-is_zero, In-Absent, Start}
+use Rattle.making.proofs.making.refusal_of_new.Goals.{Else-is_zero, In-Err, Start}
 
 -- the keeper that is asked, and the label
 abbrev lent : Start → Lent
@@ -31,7 +30,7 @@ start c = (goal.at.Else-is_zero c).Start
 
 -- a keeper that is ready and a label that is not zero: the search decides, then the company's rows, then the count
 decides :
-    (c : Else-is_zero) (f : Found) → sought (lent (start c)) (start c).args.label ≡ f
+    (c : Else-is_zero) (f : Result ℕ ℕ) → sought (lent (start c)) (start c).args.label ≡ f
     → new_refusal (lent (start c)) (start c).args.label
     ≡ first
     ((not (is_absent f) ⇒ ledger_exists)
@@ -46,10 +45,10 @@ decides c f e =
 
 -- the search finds none
 found :
-    (c : In-Absent) →
-    let s = start (goal.at.In-Absent c).Else-is_zero in
-    sought (lent s) s.args.label ≡ Absent c.in-Absent.place
-found c = sym c.find.ensures ∙ c.in-Absent.is
+    (c : In-Err) →
+    let s = start (goal.at.In-Err c).Else-is_zero in
+    sought (lent s) s.args.label ≡ Err c.in-Err.place
+found c = sym c.find.ensures ∙ c.in-Err.is
 
 pub returns-then-n-ne-ACCEPTED : goal.returns-then-n-ne-ACCEPTED
 unfolding new_refusal
@@ -106,7 +105,7 @@ pub returns-then-is_company_full : goal.returns-then-is_company_full
 unfolding first
 returns-then-is_company_full c =
     let full = c in
-    let told = (goal.at.returns-then-is_company_full c).In-Absent in
+    let told = (goal.at.returns-then-is_company_full c).In-Err in
     let s = start (goal.at.returns-then-is_company_full c).Else-is_zero in
     let all = refused_so _ _ _ _ (sought (lent s) s.args.label) c.refused-then-is_company_full.ensures.number c.refused-then-is_company_full.ensures.place
     (decides (goal.at.returns-then-is_company_full c).Else-is_zero _ (found told) ∙ rw (sym full.is_company_full.ensures ∙ c.if-is_company_full.true)) (λ e. omega arith) in
@@ -119,7 +118,7 @@ pub returns-then-head-eq-MOST : goal.returns-then-head-eq-MOST
 unfolding first
 returns-then-head-eq-MOST c =
     let room = c in
-    let told = (goal.at.returns-then-head-eq-MOST c).In-Absent in
+    let told = (goal.at.returns-then-head-eq-MOST c).In-Err in
     let s = start (goal.at.returns-then-head-eq-MOST c).Else-is_zero in
     let all = refused_so _ _ _ _ (sought (lent s) s.args.label) c.refused-then-head-eq-MOST.ensures.number c.refused-then-head-eq-MOST.ensures.place
     (decides (goal.at.returns-then-head-eq-MOST c).Else-is_zero _ (found told)
@@ -133,7 +132,7 @@ pub returns : goal.returns
 unfolding first place_if
 returns c =
     let room = c in
-    let told = (goal.at.returns c).In-Absent in
+    let told = (goal.at.returns c).In-Err in
     record {
       number = sym (decides (goal.at.returns c).Else-is_zero _ (found told)
           ∙ rw (sym room.is_company_full.ensures ∙ room.if-is_company_full.false, ne_eqb _ _ c.if-head-eq-MOST.false));
