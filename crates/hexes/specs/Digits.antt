@@ -1,13 +1,17 @@
 -- Hexadecimal digits, and the bytes that they spell.
 use Rattle.std.specs.Prelude.{ℕ, ◌+◌, ◌-◌, ◌*◌, ◌<◌, ◌≡◌, cond, List, leb, ltb, length, get_or}
 
+-- what no digit has as its value
+abbrev pub foreign : ℕ
+foreign = 16
+
 -- the value of `0` to `9` and of `a` to `f`, and 16 for any other character
 abbrev pub digitValue : ℕ → ℕ
 digitValue c =
-    cond (ltb c 48) 16
+    cond (ltb c 48) foreign
     (cond (leb c 57) (c - 48)
-    (cond (ltb c 97) 16
-    (cond (leb c 102) (c - 87) 16)))
+    (cond (ltb c 97) foreign
+    (cond (leb c 102) (c - 87) foreign)))
 
 -- byte k is what the digits at 2 * k and after it spell
 pub record SpelledAt (digits bytes : List ℕ) (k : ℕ) : Type 0 where

@@ -1,19 +1,18 @@
 // Hexadecimal text: the value of a digit, and the bytes that a run of digits spells.
 #![tactic(auto)]
 
-ghost use Rattle.std.specs.Prelude.{◌≡◌, true};
-ghost use Rattle.hexes.specs.Digits.{digitValue, Spelled};
+ghost use Rattle.std.specs.Prelude.{◌≡◌, ◌<◌, true, unwrap_or, IfSome};
+ghost use Rattle.hexes.specs.Digits.{digitValue, foreign, Spelled};
 
-const FOREIGN: u8 = 16;
-
-// The value of a digit in lower case, as the files have them, and FOREIGN for any other character.
-fn value(c: u8) -> u8
-    ensures { result ≡ digitValue c }
+// The value of a digit in lower case, as the files have them; no other character has one.
+fn value(c: u8) -> Option<u8>
+    ensures value { unwrap_or result foreign ≡ digitValue c }
+    ensures digit { IfSome result (λ v. v < foreign) }
 {
     match c {
-        b'0'..=b'9' => c - b'0',
-        b'a'..=b'f' => c - b'a' + 10,
-        _ => FOREIGN,
+        b'0'..=b'9' => Some(c - b'0'),
+        b'a'..=b'f' => Some(c - b'a' + 10),
+        _ => None,
     }
 }
 
@@ -24,15 +23,11 @@ pub fn decode(digits: &[u8], out: &mut [u8]) -> bool
     if digits.len() != 2 * out.len() {
         return false;
     }
-    let mut i = 0;
-    while i < out.len() {
-        let high = value(digits[2 * i]);
-        let low = value(digits[2 * i + 1]);
-        if high >= FOREIGN || low >= FOREIGN {
+    for i in 0..out.len() {
+        let (Some(high), Some(low)) = (value(digits[2 * i]), value(digits[2 * i + 1])) else {
             return false;
-        }
+        };
         out[i] = 16 * high + low;
-        i += 1;
     }
     true
 }

@@ -92,18 +92,18 @@ module _ (number height : ℕ) (nonce : List ℕ) where
       (λ e. tt) (λ e. tt) tt
 
   -- a kind that is not blank has the number, the height and the nonce that it is found by
-  pub record Result ℕ ℕ (k : Kind) : Type 0 where
+  pub record Found (k : Kind) : Type 0 where
     pub its_number : kind_number k ≡ number
     pub its_height : height_in k ≡ height
     pub its_nonce : nonce_in k ≡ nonce
 
-  pub found : 0 < kind_number (kind_of number height nonce) → Result ℕ ℕ (kind_of number height nonce)
+  pub found : 0 < kind_number (kind_of number height nonce) → Found (kind_of number height nonce)
   unfolding kind_of
   found =
       let n : Kind = kind_named number height nonce in
       let p : Bool = eqb (height_in n) height in
       let q : Bool = same (nonce_in n) nonce in
-      either (λ (k : Kind). 0 < kind_number k → Result ℕ ℕ k) (p && q)
+      either (λ (k : Kind). 0 < kind_number k → Found k) (p && q)
       (λ e h. record { its_number = named_number h; its_height = eqb-true (height_in n) height (and_left p q e); its_nonce = same_is (nonce_in n) nonce (and_right p q e) })
       (λ h. absurd (omega arith))
 
@@ -116,7 +116,7 @@ module _ (number height : ℕ) (nonce : List ℕ) where
 pub plain_again : (p : Plain) → 0 < kind_number (statement_of p).kind → plain_of (statement_of p) ≡ p
 unfolding plain_of statement_of
 plain_again p h =
-    let f : Result ℕ ℕ p.kind p.height p.nonce (kind_of p.kind p.height p.nonce) = found p.kind p.height p.nonce h in
+    let f : Found p.kind p.height p.nonce (kind_of p.kind p.height p.nonce) = found p.kind p.height p.nonce h in
     rw (f.its_number, f.its_height, f.its_nonce)
 
 pub typed_shaped : (p : Plain) → Typed p → Shaped (statement_of p)

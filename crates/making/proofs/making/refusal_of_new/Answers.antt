@@ -7,7 +7,7 @@ use Rattle.statement.specs.Kinds.{receipt_size}
 use lib.Dec.{eqb, leb}
 use Rattle.refusals.specs.{ledger_exists, company_full, table_full}
 use Rattle.refusals.specs.Order.{◌⇒◌, first}
-use Rattle.std.specs.Prelude.{Result, Err}
+use Rattle.std.specs.Prelude.{ℕ, Result, Err}
 use Rattle.rows.specs.Sizes.{most_rows}
 use Rattle.rows.proofs.Tables.{fit_length, fit_count}
 use Rattle.rules.specs.Outcomes.{Lent}
