@@ -1,8 +1,12 @@
 // The answers of every call: acceptance, or a refusal with its number in document 01's table or in a request of document 02.
 #![tactic(auto)]
 
+mod written;
+
 ghost use Rattle.std.specs.Prelude.{◌≡◌};
 ghost use Rattle.refusals.specs.Refused.{refusal_number, refusal_height};
+
+pub use written::Written;
 
 // The answer of an accepted call.
 pub const ACCEPTED: u32 = 0;
