@@ -10,6 +10,7 @@ pub mod Noted
 pub mod NewPlace
 pub mod Finalised
 pub mod Somes
+pub mod Tolds
 pub mod Derived
 pub mod Activated
 pub mod TablesChanged

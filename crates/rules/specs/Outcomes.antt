@@ -1,10 +1,13 @@
 -- What a call is lent, what it leaves and what it answers. 01, "Calls, with the order of their refusals".
-use Rattle.std.specs.Prelude.{true, false, not, cond, List, [], ◌∷◌, ◌++◌, ℕ, length, eqb, ltb}
+use Rattle.std.specs.Prelude.{true, false, not, cond, List, [], ◌∷◌, ◌++◌, ℕ, length, eqb, ltb, Result, Ok, Err}
 use Rattle.refusals.specs.{accepted, area_too_short, record_not_sound, out_of_order}
 use Rattle.refusals.specs.Order.{Test, ◌⇒◌}
+use Rattle.refusals.specs.declared.Refusal.{Refusal}
+use Rattle.refusals.specs.Refused.{refusal_number, refusal_height}
 use Rattle.octets.specs.Strings.{put}
 use Rattle.rules.specs.declared.Head.{Head}
 use Rattle.rules.specs.declared.Answer.{Answer}
+use Rattle.rules.specs.declared.Done.{Done}
 use Rattle.rules.specs.declared.Told.{Told}
 use Rattle.rules.specs.Record.{sound}
 
@@ -33,6 +36,29 @@ accepting written = record { number = accepted; written = written; height = 0; r
 -- ".. marked as a repeat"
 abbrev pub repeating : ℕ → Answer
 repeating written = record { number = accepted; written = written; height = 0; repeat = true }
+
+-- the answer that a call's result is
+abbrev pub answer_told : Result Done Refusal → Answer
+answer_told (Ok d) = record { number = accepted; written = d.written; height = 0; repeat = d.repeat }
+answer_told (Err r) = refusing (refusal_number r) (refusal_height r)
+
+-- the head that it leaves: after a refusal the one that was lent
+abbrev pub head_told : Head → Result Done Refusal → Head
+head_told head (Ok d) = d.head
+head_told head (Err r) = head
+
+-- what a call tells by its result
+abbrev pub told : Head → Result Done Refusal → Told
+told head result = record { answer = answer_told result; head = head_told head result }
+
+-- the answer of a call that writes so many bytes and gives the place of a row
+abbrev pub answer_placed : ℕ → Result ℕ Refusal → Answer
+answer_placed written (Ok i) = accepting written
+answer_placed written (Err r) = refusing (refusal_number r) (refusal_height r)
+
+-- what it tells by its result: the head stays
+abbrev pub told_place : Head → ℕ → Result ℕ Refusal → Told
+told_place head written result = record { answer = answer_placed written result; head = head }
 
 -- a refusal ".. changes nothing lent"
 unfoldable pub refused : ℕ → ℕ → Lent → Outcome

@@ -1,6 +1,8 @@
 // What a keeper keeps and what its calls answer. The rules of the calls are in specs/.
 #![tactic(auto)]
 
+mod answers;
+
 // A keeper's head. Identity and digests are zero until they are set.
 #[repr(C)]
 #[derive(Clone, Copy)]
@@ -24,7 +26,16 @@ pub struct Answer {
     pub repeat: bool,
 }
 
+// What an accepted call leaves: how many bytes were written, whether they were written before, and the head.
+#[derive(Clone, Copy)]
+pub struct Done {
+    pub written: usize,
+    pub repeat: bool,
+    pub head: Head,
+}
+
 // The answer, and the head as the call leaves it.
+// TRANSITION: becomes a record of specs/ when no call returns it any more.
 #[derive(Clone, Copy)]
 pub struct Told {
     pub answer: Answer,
