@@ -1,17 +1,19 @@
 -- Laws of a string put into another: its length, its parts, and one put after the other. Assumes nothing.
 use mathlib.Core.Path.{◌≡◌, sym, ap, ap₂, ◌∙◌}
 use mathlib.Core.List.{List, ◌++◌, append_assoc, append-nil}
-use Prim.Native.Nat.{ℕ, ◌+◌, ◌≤◌}
+use Prim.Native.Nat.{ℕ, ◌+◌, ◌-◌, ◌≤◌}
 use native.Mathlib.Nat.{zero-add, add_assoc}
 use native.Mathlib.Omega.{arith}
 use lib.ListN.{length, take, drop, length-append, length-take, length-drop}
-use lib.Seq.{drop-drop, paste, take-length, take_at, drop_at, length-take-le, drop-length}
+use lib.Seq.{drop-drop, take_at, drop_at, length-take-le, drop-length}
 use Rattle.octets.specs.Strings.{put}
 
--- as the library has it for a copy
-pub put-paste : (d : List ℕ) (at : ℕ) (s : List ℕ) → paste d at s (length s) ≡ put d at s
+-- as the checker has it of a part that is lent and comes back
+pub put-part : (d : List ℕ) (at : ℕ) (s : List ℕ) → take at d ++ (s ++ drop (at + length s - at) (drop at d)) ≡ put d at s
 unfolding put
-put-paste d at s = rw (take-length s)
+put-part d at s =
+    let n : at + length s - at ≡ length s = omega arith in
+    rw (n, drop-drop (length s) at d) (sym (append_assoc (take at d) s (drop (at + length s) d)))
 
 pub put-length : (d : List ℕ) (at : ℕ) (s : List ℕ) → at + length s ≤ length d → length (put d at s) ≡ length d
 unfolding put

@@ -1,12 +1,9 @@
 // Making a string all zero.
 ghost use Rattle.std.specs.Prelude.{◌≡◌, length, replicate};
 
+// TRANSITION: goes when record, roll and composing have left it for `fill`.
 pub fn clear(s: &mut [u8])
     ensures { s.new ≡ replicate (length s.old) 0 }
 {
-    let mut i = 0;
-    while i < s.len() {
-        s[i] = 0;
-        i += 1;
-    }
+    s.fill(0);
 }

@@ -7,11 +7,7 @@ pub fn copy_at(dst: &mut [u8], at: usize, src: &[u8])
     requires { at + length src.now ≤ length dst.old }
     ensures { dst.new ≡ put dst.old at src.now }
 {
-    let mut i = 0;
-    while i < src.len() {
-        dst[at + i] = src[i];
-        i += 1;
-    }
+    dst[at..at + src.len()].copy_from_slice(src);
 }
 
 // The N bytes of a string from a place on.

@@ -11,14 +11,14 @@ pub use compare::{is_before, is_same, is_zero};
 pub use copy::{array_at, copy_at};
 pub use number::{number_at, put_number, put_word, word_at};
 
-// An answer, and how many parts were read.
+// TRANSITION: goes when record, reading and their like answer a Result. An answer, and how many parts were read.
 #[derive(Clone, Copy)]
 pub struct Counted {
     pub answer: u32,
     pub count: u8,
 }
 
-// An answer, and how many bytes were written.
+// TRANSITION: goes when all that write answer a Result. An answer, and how many bytes were written.
 #[derive(Clone, Copy)]
 pub struct Written {
     pub answer: u32,

@@ -8,17 +8,17 @@ use Rattle.octets.proofs.Compared.{neither, zero_step, zero_end}
 use Rattle.octets.specs.Strings.{all_zero}
 use Rattle.octets.proofs.compare.is_zero.Goals as goal
 
-pub loop-i-preserved : goal.loop-i-preserved
-loop-i-preserved c =
+pub loop-b-preserved : goal.loop-b-preserved
+loop-b-preserved c =
     let s = c.args.s.now in
-    let l = c.loop-i in
-    let rest = all_zero (drop (l.i + 1) s) in
+    let l = c.loop-b in
+    let rest = all_zero (drop (l.b-index + 1) s) in
     l.invariant
-    ∙ ap (λ (p : Bool). eqb l.seen 0 && p) (zero_step s l.i (omega arith))
-    ∙ sym (and_assoc (eqb l.seen 0) (eqb (get_or s l.i 0) 0) rest)
-    ∙ sym (ap (λ (p : Bool). p && rest) (neither l.seen (get_or s l.i 0)))
+    ∙ ap (λ (p : Bool). eqb l.seen 0 && p) (zero_step s l.b-index (omega arith))
+    ∙ sym (and_assoc (eqb l.seen 0) (eqb (get_or s l.b-index 0) 0) rest)
+    ∙ sym (ap (λ (p : Bool). p && rest) (neither l.seen (get_or s l.b-index 0)))
 
 pub returns : goal.returns
 returns c =
-    let l = c.loop-i in
-    sym (l.invariant ∙ ap (λ (p : Bool). eqb l.seen 0 && p) (zero_end c.args.s.now l.i (omega arith)) ∙ and-true (eqb l.seen 0))
+    let l = c.loop-b in
+    sym (l.invariant ∙ ap (λ (p : Bool). eqb l.seen 0 && p) (zero_end c.args.s.now l.b-index (omega arith)) ∙ and-true (eqb l.seen 0))

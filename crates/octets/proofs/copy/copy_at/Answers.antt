@@ -1,41 +1,13 @@
-use mathlib.Core.Path.{◌≡◌, sym, ap, ◌∙◌}
-use mathlib.Core.List.{List}
-use Prim.Native.Nat.{ℕ, ◌+◌}
-use native.Mathlib.Numerals.{add-one}
-use native.Mathlib.Omega.{arith}
-use lib.ListN.{length, get_or, set}
-use lib.Seq.{paste, paste-zero, paste-suc, length-paste}
-use Rattle.octets.proofs.Puts.{put-paste}
+use mathlib.Core.List.{List, ◌++◌}
+use mathlib.Core.Path.{ap, ◌∙◌}
+use Prim.Native.Nat.{ℕ, ◌+◌, ◌-◌}
+use lib.ListN.{length, take, drop}
+use Rattle.octets.proofs.Puts.{put-part}
 use Rattle.octets.proofs.copy.copy_at.Goals as goal
-
-pub loop-i-init : goal.loop-i-init
-loop-i-init c = (omega arith, paste-zero c.args.dst.now c.args.at c.args.src.now)
-
-pub bounds-dst-at : goal.bounds-dst-at
-bounds-dst-at c =
-    let a = c.args in
-    let l = c.loop-i in
-    omega (arith, ap length l.invariant.1, length-paste a.dst.now a.at a.src.now l.i (omega arith) (omega arith))
-
-pub loop-i-preserved : goal.loop-i-preserved
-loop-i-preserved c =
-    let a = c.args in
-    let l = c.loop-i in (
-      omega arith,
-      ap (λ (d : List ℕ). set d (a.at + l.i) (get_or a.src.now l.i 0)) l.invariant.1
-          ∙ paste-suc a.dst.now a.at a.src.now l.i 0 (omega arith) (omega arith)
-          ∙ ap (paste a.dst.now a.at a.src.now) (sym (add-one l.i)),
-    )
-
-pub shape_of-dst : goal.shape_of-dst
-shape_of-dst c =
-    let a = c.args in
-    let l = c.loop-i in
-    ap length l.invariant.1 ∙ length-paste a.dst.now a.at a.src.now l.i (omega arith) (omega arith)
 
 pub returns : goal.returns
 returns c =
-    let a = c.args in
-    let l = c.loop-i in
-    let e : l.i ≡ length a.src.now = omega arith in
-    l.invariant.1 ∙ ap (paste a.dst.now a.at a.src.now) e ∙ put-paste a.dst.now a.at a.src.now
+    let d = c.args.dst.now in
+    let at = c.args.at in
+    let s = c.args.src.now in
+    ap (λ (x : List ℕ). take at d ++ (x ++ drop (at + length s - at) (drop at d))) c.copy_from_slice.ensures.after ∙ put-part d at s

@@ -1,18 +1,13 @@
-use mathlib.Core.Path.{◌≡◌, sym, ap, ap₂, ◌∙◌}
-use mathlib.Core.List.{List, ◌++◌}
-use Prim.Native.Nat.{ℕ, ◌+◌, ◌*◌, ◌^◌}
+use mathlib.Core.Path.{◌≡◌, ap, ◌∙◌}
 use native.Mathlib.Omega.{arith}
-use lib.ListN.{length, take, drop, length-take, length-drop}
-use lib.Seq.{take-add, drop-drop}
-use Rattle.octets.specs.Numbers.{number_of}
-use Rattle.octets.proofs.Numbers.{number_append}
+use lib.ListN.{length, take, drop, length-drop}
+use lib.Seq.{length-take-le}
+use Rattle.std.specs.Int.{w64, from_be_bytes}
+use Rattle.octets.proofs.Numbers.{number_sum}
 use Rattle.octets.proofs.number.number_at.Goals as goal
 
 pub returns : goal.returns
 returns c =
-    let a = c.args in
-    let l = drop a.at a.s.now in
-    let halves : take 8 l ≡ take 4 l ++ take 4 (drop (a.at + 4) a.s.now) = take-add 4 4 l ∙ ap (λ (x : List ℕ). take 4 l ++ take 4 x) (drop-drop 4 a.at a.s.now) in
-    let four : length (take 4 (drop (a.at + 4) a.s.now)) ≡ 4 = simp (length-take, length-drop) (omega arith) in
-    ap₂ (λ (x y : ℕ). x * 4294967296 + y) c.word_at-high.ensures c.word_at-low.ensures
-    ∙ sym (ap number_of halves ∙ number_append (take 4 l) (take 4 (drop (a.at + 4) a.s.now)) ∙ ap (λ (k : ℕ). number_of (take 4 l) * 256 ^ k + number_of (take 4 (drop (a.at + 4) a.s.now))) four)
+    let s = drop c.args.at c.args.s.now in
+    let n : length (take 8 s) ≡ 8 = length-take-le 8 s (omega (arith, length-drop c.args.at c.args.s.now)) in
+    c.from_be_bytes.ensures ∙ ap (from_be_bytes w64) c.array_at.ensures ∙ number_sum 7 (take 8 s) n
