@@ -1,10 +1,10 @@
 -- Laws of what each test of a string decides of its being a bundle: a place past the end, like a part that does not fit, rules it out. Assumes nothing.
 use mathlib.Core.Path.{◌≡◌, refl, sym, ◌∙◌}
-use mathlib.Core.Bool.{Bool, true, false, ◌&&◌, and-false}
+use mathlib.Core.Bool.{Bool, true, false, not, ◌&&◌, and-false}
 use mathlib.Core.List.{List}
 use Prim.Native.Nat.{ℕ, ◌+◌, ◌*◌, ◌<◌, ◌≤◌}
 use native.Mathlib.Omega.{arith}
-use borrow.Author.Tests.{le-leb, lt-leb, le-ltb, ne_eqb, ltb-true, ltb-false, leb-true, leb-false}
+use borrow.Author.Tests.{le-leb, lt-leb, le-ltb, ne_eqb, eqb-true, not-false, ltb-true, ltb-false, leb-true, leb-false}
 use lib.ListN.{length}
 use lib.Dec.{eqb, leb, ltb}
 use Rattle.octets.proofs.RoundTrips.{and_left, and_right}
@@ -23,6 +23,16 @@ use Rattle.bundle.proofs.Places.{old_next, old_before_new, new_before_lists, lis
 fails : (p q : Bool) (goal : Type 0) → (p && q) ≡ false → (p ≡ false → goal) → (p ≡ true → q ≡ false → goal) → goal
 fails true q goal e a b = b refl e
 fails false q goal e a b = a refl
+
+-- tests in turn, each of which decides where it fails, and the last where none does
+in_turn :
+    (a b c d e whole : Bool) → (a ≡ false → whole ≡ false) → (b ≡ false → whole ≡ false) → (b ≡ true → c ≡ false → whole ≡ false)
+    → (b ≡ true → c ≡ true → d ≡ false → whole ≡ false) → (b ≡ true → c ≡ true → d ≡ true → e ≡ whole) → whole ≡ (a && b && c && d && e)
+in_turn false b c d e whole p q r s t = p refl
+in_turn true false c d e whole p q r s t = q refl
+in_turn true true false d e whole p q r s t = r refl refl
+in_turn true true true false e whole p q r s t = s refl refl refl
+in_turn true true true true e whole p q r s t = sym (t refl refl refl)
 
 -- a list that begins past the string's end
 unended : (s : List ℕ) (j : ℕ) → length s < list_at s j → eqb (list_at s j) (length s) ≡ false
@@ -139,6 +149,18 @@ module _ (n m rows : ℕ) (s : List ℕ) where
       pub lists_decide : news_end m s ≡ true → lists_end (rows * old_count s) s ≡ bundle_fits n m rows s
       unfolding bundle_fits
       lists_decide new = rw (le-leb (length s) longest_bundle short, old_fit, and_right (leb (list_at s 0) (length s)) (news m s) new)
+
+  -- the tests of the code, one after the other
+  pub tested :
+      bundle_fits n m rows s
+      ≡ (not (eqb (length s) 0) && leb (length s) longest_bundle && olds_end n s && news_end m s && lists_end (rows * old_count s) s)
+  tested =
+      in_turn (not (eqb (length s) 0)) (leb (length s) longest_bundle) (olds_end n s) (news_end m s) (lists_end (rows * old_count s) s) _
+      (λ e. empty (eqb-true (length s) 0 (not-false (eqb (length s) 0) e)))
+      (λ e. too_long (leb-false (length s) longest_bundle e))
+      (λ b e. old_decide (leb-true (length s) longest_bundle b) e)
+      (λ b c e. new_decide (leb-true (length s) longest_bundle b) c e)
+      (λ b c d. lists_decide (leb-true (length s) longest_bundle b) c d)
 
 pub old_inside : (n : ℕ) (s : List ℕ) → olds_end n s ≡ true → new_at s < length s
 old_inside n s e = ltb-true (new_at s) (length s) (and_right (olds n s) (ltb (new_at s) (length s)) e)

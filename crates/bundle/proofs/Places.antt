@@ -4,13 +4,14 @@ use mathlib.Core.Bool.{Bool, true, ◌&&◌}
 use mathlib.Core.List.{List}
 use Prim.Native.Nat.{ℕ, zero, suc, ◌+◌, ◌-◌, ◌*◌, ◌/◌, ◌<◌, ◌≤◌}
 use native.Mathlib.Decide.{dec_lt}
-use native.Mathlib.Nat.{mul-suc, mul-le-mul_left}
+use native.Mathlib.Nat.{add-zero, mul-suc, mul-le-mul_left}
 use native.Mathlib.Numerals.{add-one}
 use native.Mathlib.Omega.{arith}
 use borrow.Author.Tests.{leb-true, eqb-true}
 use lib.ListN.{length, take, drop, length-drop}
-use lib.Seq.{length-take-le}
+use lib.Seq.{length-take-le, get_or-take, get_or-drop}
 use lib.Dec.{eqb, leb}
+use Rattle.std.specs.Int.{w16, from_be_bytes}
 use Rattle.octets.specs.Numbers.{number_of}
 use Rattle.octets.proofs.RoundTrips.{and_left, and_right}
 use Rattle.marks.specs.Entries.{entries_fit, pair_position, pair_marks}
@@ -31,9 +32,17 @@ grown f grows i (suc j) h = go (λ l. grown f grows i j l) (dec_lt i (suc j))
     go earlier (yes l) = omega (arith, earlier (omega arith), grows j)
     go earlier (no g) = let e : i ≡ suc j = omega arith in rw e (omega arith)
 
-pub two_bytes : (s : List ℕ) (at : ℕ) → two_byte s at ≡ byte s at * 256 + byte s (at + 1)
+-- the number of the two bytes at a place
+pub two_bytes : (s : List ℕ) (at : ℕ) → from_be_bytes w16 (take 2 (drop at s)) ≡ two_byte s at
 unfolding two_byte number_of
-two_bytes s at = omega arith
+two_bytes s at =
+    rw (
+      get_or-take 2 (drop at s) 0 0 (omega arith),
+      get_or-take 2 (drop at s) 1 0 (omega arith),
+      get_or-drop at s 0 0,
+      get_or-drop at s 1 0,
+      add-zero at,
+    ) (omega arith)
 
 module _ (s : List ℕ) where
   pub old_next : (i : ℕ) → old_at s (i + 1) ≡ old_at s i + (3 + block_bytes * old_blocks s i)

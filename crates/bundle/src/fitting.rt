@@ -13,17 +13,9 @@ fn old_entry_fits(s: &[u8], at: usize, n: usize, low: usize) -> bool
     requires { at ≤ 2 * longest_bundle }
     ensures { result ≡ old_asked s.now n low at }
 {
-    if s.len() <= at + 2 {
-        return false;
-    }
-    if !marks::entry_fits(s[at], s[at + 1], n, low) {
-        return false;
-    }
-    let blocks = s[at + 2];
-    if blocks < 1 {
-        return false;
-    }
-    blocks <= MOST_BLOCKS
+    at + 2 < s.len()
+        && marks::entry_fits(s[at], s[at + 1], n, low)
+        && (1..=MOST_BLOCKS).contains(&s[at + 2])
 }
 
 // Whether the old entries keep the rules for a rack of n, and end before the string does.
@@ -31,17 +23,14 @@ fn old_entries_fit(s: &[u8], n: usize) -> bool
     requires { (0 < length s.now) × (length s.now ≤ longest_bundle) }
     ensures { result ≡ olds_end n s.now }
 {
-    let count = old_count(s);
-    let mut low: usize = 0;
-    let mut at: usize = 1;
-    let mut i = 0;
-    while i < count {
+    let mut low = 0;
+    let mut at = 1;
+    for _ in 0..old_count(s) {
         if !old_entry_fits(s, at, n, low) {
             return false;
         }
         low = s[at] as usize + 1;
         at = next_old(s, at);
-        i += 1;
     }
     at < s.len()
 }
@@ -51,10 +40,7 @@ fn new_entries_fit(s: &[u8], m: usize) -> bool
     requires { (new_at s.now < length s.now) × (length s.now ≤ longest_bundle) }
     ensures { result ≡ news_end m s.now }
 {
-    if s.len() < first_list(s) {
-        return false;
-    }
-    marks::entries_fit(new_entries(s), m)
+    first_list(s) <= s.len() && marks::entries_fit(new_entries(s), m)
 }
 
 // Whether a list of entry digests may stand at a place.
@@ -62,10 +48,7 @@ fn list_fits(s: &[u8], at: usize) -> bool
     requires { at ≤ 2 * longest_bundle }
     ensures { result ≡ list_asked s.now at }
 {
-    if s.len() <= at + 1 {
-        return false;
-    }
-    added_at(s, at) <= MOST_ADDED
+    at + 1 < s.len() && added_at(s, at) <= MOST_ADDED
 }
 
 // Whether so many lists keep the rules, and end where the string does.
@@ -74,13 +57,11 @@ fn lists_fit(s: &[u8], count: usize) -> bool
     ensures { result ≡ lists_end count s.now }
 {
     let mut at = first_list(s);
-    let mut j = 0;
-    while j < count {
+    for _ in 0..count {
         if !list_fits(s, at) {
             return false;
         }
         at = next_list(s, at);
-        j += 1;
     }
     at == s.len()
 }
@@ -90,17 +71,9 @@ pub fn is_bundle(s: &[u8], n: usize, m: usize, rows: usize) -> bool
     requires { rows ≤ most_rows }
     ensures { result ≡ bundle_fits n m rows s.now }
 {
-    if LONGEST < s.len() {
-        return false;
-    }
-    if s.len() == 0 {
-        return false;
-    }
-    if !old_entries_fit(s, n) {
-        return false;
-    }
-    if !new_entries_fit(s, m) {
-        return false;
-    }
-    lists_fit(s, rows * old_count(s))
+    !s.is_empty()
+        && s.len() <= LONGEST
+        && old_entries_fit(s, n)
+        && new_entries_fit(s, m)
+        && lists_fit(s, rows * old_count(s))
 }

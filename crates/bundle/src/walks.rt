@@ -5,6 +5,7 @@ ghost use Rattle.statement.specs.Kinds.{digest_bytes};
 ghost use Rattle.rules.specs.Bundle.{longest_bundle, byte, old_count, old_at, new_at, new_count, two_byte, list_at};
 
 use crate::{BLOCK, LIST_HEAD, OLD_HEAD, PAIR};
+use octets::array_at;
 use rows::DIGEST;
 
 // How many old entries a bundle has.
@@ -29,11 +30,9 @@ pub fn old_at(s: &[u8], i: usize) -> usize
     requires { (old_at s.now i ≤ length s.now) × (length s.now ≤ longest_bundle) }
     ensures { result ≡ old_at s.now i }
 {
-    let mut at: usize = 1;
-    let mut k = 0;
-    while k < i {
+    let mut at = 1;
+    for _ in 0..i {
         at = next_old(s, at);
-        k += 1;
     }
     at
 }
@@ -61,9 +60,7 @@ pub fn added_at(s: &[u8], at: usize) -> usize
     requires { at + 2 ≤ length s.now }
     ensures { (result ≡ two_byte s.now at) × (result < 65536) }
 {
-    let high = s[at] as usize;
-    let low = s[at + 1] as usize;
-    high * 256 + low
+    u16::from_be_bytes(array_at(s, at)) as usize
 }
 
 // Where the list ends that begins at a place.
@@ -90,10 +87,8 @@ pub fn list_at(s: &[u8], j: usize) -> usize
     ensures { result ≡ list_at s.now j }
 {
     let mut at = first_list(s);
-    let mut k = 0;
-    while k < j {
+    for _ in 0..j {
         at = next_list(s, at);
-        k += 1;
     }
     at
 }

@@ -9,13 +9,8 @@ use Rattle.bundle.proofs.Places.{new_half}
 use native.Mathlib.Omega.{arith}
 use Rattle.bundle.proofs.fitting.new_entries_fit.Goals as goal
 
-pub returns-then-s-first_list : goal.returns-then-s-first_list
-returns-then-s-first_list c =
-    let s = c.args.s.now in
-    rw (lt-leb (list_at s 0) (length s) (omega (arith, c.first_list.ensures)))
-
-pub returns : goal.returns
-returns c =
+pub returns-then-first_list-s : goal.returns-then-first_list-s
+returns-then-first_list-s c =
     let a = c.args in
     let s = a.s.now in
     let w : list_at s 0 ≤ length s = omega (arith, c.first_list.ensures) in

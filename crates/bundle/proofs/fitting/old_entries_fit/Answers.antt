@@ -13,63 +13,62 @@ use Rattle.bundle.proofs.Deciding.{old_fails, old_kept}
 use native.Mathlib.Omega.{arith}
 use Rattle.bundle.proofs.fitting.old_entries_fit.Goals as goal
 
-pub old_count-count-requires : goal.old_count-count-requires
-old_count-count-requires c = c.requires.0
+pub old_count-end-requires : goal.old_count-end-requires
+old_count-end-requires c = c.requires.0
 
-pub loop-i-init : goal.loop-i-init
+pub loop-init : goal.loop-init
 unfolding old_at lowest entries_fit each
-loop-i-init c = (omega arith, refl, refl, omega arith, refl, refl)
+loop-init c = record { placed = refl; lower = refl; near = omega arith; entries = refl; blocks = refl }
 
 pub returns-then-not-old_entry_fits : goal.returns-then-not-old_entry_fits
 returns-then-not-old_entry_fits c =
     let a = c.args in
-    let l = c.loop-i in
-    sym (old_fails a.n a.s.now l.i l.at l.low l.invariant.1 l.invariant.2 (omega (arith, c.old_count-count.ensures))
+    let l = c.loop in
+    sym (old_fails a.n a.s.now l.counter l.at l.low l.invariant.placed l.invariant.lower (omega (arith, c.old_count-end.ensures))
     (sym c.old_entry_fits.ensures ∙ c.if-not-old_entry_fits.true))
 
 pub bounds-s-at : goal.bounds-s-at
 bounds-s-at c =
     let a = c.args in
-    let l = c.loop-i in
-    let k = old_kept a.n a.s.now l.i l.at l.low l.invariant.1 l.invariant.2 (sym c.old_entry_fits.ensures ∙ c.if-not-old_entry_fits.false) in
+    let l = c.loop in
+    let k = old_kept a.n a.s.now l.counter l.at l.low l.invariant.placed l.invariant.lower (sym c.old_entry_fits.ensures ∙ c.if-not-old_entry_fits.false) in
     omega (arith, k.head)
 
 pub overflow_cast-low : goal.overflow_cast-low
-overflow_cast-low c = omega (arith, c.shared_slice_known-in-loop-i-1.given c.loop-i.at)
+overflow_cast-low c = omega (arith, c.shared_slice_known-in-loop-1.given c.loop.at)
 
 pub overflow_add-low : goal.overflow_add-low
-overflow_add-low c = omega (arith, c.shared_slice_known-in-loop-i-1.given c.loop-i.at)
+overflow_add-low c = omega (arith, c.shared_slice_known-in-loop-1.given c.loop.at)
 
 pub next_old-at-requires : goal.next_old-at-requires
 next_old-at-requires c =
     let a = c.args in
-    let l = c.loop-i in
-    let k = old_kept a.n a.s.now l.i l.at l.low l.invariant.1 l.invariant.2 (sym c.old_entry_fits.ensures ∙ c.if-not-old_entry_fits.false) in
+    let l = c.loop in
+    let k = old_kept a.n a.s.now l.counter l.at l.low l.invariant.placed l.invariant.lower (sym c.old_entry_fits.ensures ∙ c.if-not-old_entry_fits.false) in
     (omega (arith, k.head), c.requires.1)
 
-pub loop-i-preserved : goal.loop-i-preserved
-loop-i-preserved c =
+pub loop-preserved : goal.loop-preserved
+loop-preserved c =
     let a = c.args in
-    let l = c.loop-i in
+    let l = c.loop in
     let s = a.s.now in
-    let k = old_kept a.n s l.i l.at l.low l.invariant.1 l.invariant.2 (sym c.old_entry_fits.ensures ∙ c.if-not-old_entry_fits.false) in
-    let q = old_step s l.i l.at l.invariant.1 c.next_old-at.ensures in
-    let next = ap (λ (x : ℕ). byte s x + 1) l.invariant.1 ∙ sym (lowest_next (old_position s) l.i) in (
-      omega arith,
-      q,
-      next,
-      omega (arith, q, k.near, c.requires.1),
-      one_more a.n (old_position s) (old_marks s) l.i l.invariant.4 k.entry,
-      each_next (blocks_fit s) l.i l.invariant.5 k.blocks,
-    )
+    let k = old_kept a.n s l.counter l.at l.low l.invariant.placed l.invariant.lower (sym c.old_entry_fits.ensures ∙ c.if-not-old_entry_fits.false) in
+    let q = old_step s l.counter l.at l.invariant.placed c.next_old-at.ensures in
+    let next = ap (λ (x : ℕ). byte s x + 1) l.invariant.placed ∙ sym (lowest_next (old_position s) l.counter) in record {
+      placed = q;
+      lower = next;
+      near = omega (arith, q, k.near, c.requires.1);
+      entries = one_more a.n (old_position s) (old_marks s) l.counter l.invariant.entries k.entry;
+      blocks = each_next (blocks_fit s) l.counter l.invariant.blocks k.blocks;
+    }
 
 pub returns : goal.returns
 unfolding new_at
 returns c =
     let a = c.args in
-    let l = c.loop-i in
+    let l = c.loop in
     let s = a.s.now in
-    let e : l.i ≡ old_count s = omega (arith, c.old_count-count.ensures) in
-    let f : entries_fit a.n (old_position s) (old_marks s) (old_count s) ≡ true = rw e at l.invariant.4 in
-    let g : each (blocks_fit s) (old_count s) ≡ true = rw e at l.invariant.5 in
-    rw (f, g) (ap (λ (x : ℕ). ltb x (length s)) (l.invariant.1 ∙ ap (old_at s) e))
+    let e : l.counter ≡ old_count s = omega (arith, c.old_count-end.ensures) in
+    let f : entries_fit a.n (old_position s) (old_marks s) (old_count s) ≡ true = rw e at l.invariant.entries in
+    let g : each (blocks_fit s) (old_count s) ≡ true = rw e at l.invariant.blocks in
+    rw (f, g) (ap (λ (x : ℕ). ltb x (length s)) (l.invariant.placed ∙ ap (old_at s) e))

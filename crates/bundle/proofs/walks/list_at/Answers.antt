@@ -7,23 +7,21 @@ use Rattle.bundle.proofs.walks.list_at.Goals as goal
 pub first_list-at-requires : goal.first_list-at-requires
 first_list-at-requires c = (omega (arith, new_before_lists c.args.s.now c.args.j), c.requires.1)
 
-pub loop-k-init : goal.loop-k-init
-loop-k-init c = (omega arith, c.first_list-at.ensures)
+pub loop-init : goal.loop-init
+loop-init c = c.first_list-at.ensures
 
 pub next_list-at-requires : goal.next_list-at-requires
 next_list-at-requires c =
     let a = c.args in
     let p = c.requires in
-    (omega (arith, list_ends a.s.now c.loop-k.k a.j (omega arith)), p.1)
+    (omega (arith, list_ends a.s.now c.loop.counter a.j (omega arith)), p.1)
 
-pub loop-k-preserved : goal.loop-k-preserved
-loop-k-preserved c =
-    let l = c.loop-k in
-    (omega arith, list_step c.args.s.now l.k l.at l.invariant.1 c.next_list-at.ensures)
+pub loop-preserved : goal.loop-preserved
+loop-preserved c = let l = c.loop in list_step c.args.s.now l.counter l.at l.invariant c.next_list-at.ensures
 
 pub returns : goal.returns
 returns c =
     let a = c.args in
-    let l = c.loop-k in
-    let e : l.k ≡ a.j = omega arith in
-    l.invariant.1 ∙ ap (list_at a.s.now) e
+    let l = c.loop in
+    let e : l.counter ≡ a.j = omega arith in
+    l.invariant ∙ ap (list_at a.s.now) e
