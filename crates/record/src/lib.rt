@@ -9,6 +9,6 @@ mod waking;
 
 pub use answers::{acceptance, refusal, repetition};
 pub use giving::give;
-pub use ready::{unlent, unready};
+pub use ready::{check_lent, check_ready, unlent, unready};
 pub use soundness::{ACTIVE, BLANK, FINALISED, PREPARED, is_sound};
 pub use waking::wake;

@@ -1,11 +1,46 @@
 // What the calls ask first: room in the output area, a sound record, the right status.
 ghost use Rattle.std.specs.Prelude.{◌≡◌};
 ghost use Rattle.refusals.specs.Order.{first};
+ghost use Rattle.refusals.specs.Refused.{refusal_number, answer_of};
 ghost use Rattle.rules.specs.Outcomes.{Lent, lending, readiness};
 
 use crate::soundness::is_sound;
+use refusals::Refusal;
 use rules::Head;
 
+// Refuses by room and soundness.
+pub fn check_lent(head: Head, table: &[u8], area: &[u8], size: usize) -> Result<(), Refusal>
+    ensures { answer_of result ≡ first (lending size (record { head = head; table = table.now; area = area.now })) }
+{
+    if area.len() < size {
+        return Err(Refusal::AreaTooShort);
+    }
+    if !is_sound(head, table) {
+        return Err(Refusal::RecordNotSound);
+    }
+    Ok(())
+}
+
+// Refuses by them and by the status; `otherwise` is the refusal of another status.
+pub fn check_ready(
+    head: Head,
+    table: &[u8],
+    area: &[u8],
+    size: usize,
+    status: u8,
+    otherwise: Refusal,
+) -> Result<(), Refusal>
+    ensures { answer_of result
+        ≡ first (readiness size status (refusal_number otherwise) (record { head = head; table = table.now; area = area.now })) }
+{
+    check_lent(head, table, area, size)?;
+    if head.status != status {
+        return Err(otherwise);
+    }
+    Ok(())
+}
+
+// TRANSITION: goes when ledgers, making, recording, entering, leaving and handover have left it for `check_lent`.
 // The first refusal of room and soundness, or 0.
 pub fn unlent(head: Head, table: &[u8], area: &[u8], size: usize) -> u32
     ensures { result ≡ first (lending size (record { head = head; table = table.now; area = area.now })) }
@@ -19,6 +54,7 @@ pub fn unlent(head: Head, table: &[u8], area: &[u8], size: usize) -> u32
     refusals::ACCEPTED
 }
 
+// TRANSITION: goes when ledgers, making, recording, entering, leaving and handover have left it for `check_ready`.
 // The first refusal among them, or 0; `number` is the one of another status.
 pub fn unready(head: Head, table: &[u8], area: &[u8], size: usize, status: u8, number: u32) -> u32
     ensures { result ≡ first (readiness size status number (record { head = head; table = table.now; area = area.now })) }
