@@ -12,10 +12,10 @@ use Rattle.octets.proofs.Orders.{before_other, before_trans}
 use Rattle.octets.proofs.RoundTrips.{and_right, same_is}
 use Rattle.rows.specs.Row.{label_of, row_fits}
 use Rattle.rows.specs.Table.{rises, stands, rows_fit}
-use Rattle.rows.specs.Search.{first_of, find, Parts}
-use Rattle.std.specs.Prelude.{Result, Ok, Err}
+use Rattle.rows.specs.Search.{first_of, find, Parts, Falls, Halved}
+use Rattle.std.specs.Prelude.{Ok, Err}
 use Rattle.rows.proofs.Tables.{each_of, fit-stands}
-use Rattle.rows.proofs.Searches.{fit_held, first_next, first_found}
+use Rattle.rows.proofs.Searches.{fit_held, first_found}
 
 module _ (rows label : List ℕ) where
   -- as many rows as have a smaller label, where all have
@@ -79,6 +79,13 @@ module _ (count : ℕ) (rows : List ℕ) (fit : rows_fit count rows ≡ true) wh
         less true p =
             let z : ◌≡◌ {A = Bool} true false = sym (before_trans (label_of rows i) (label_of rows j) label (in_order i j h l) p) ∙ e in
             cc
+
+    -- what halving finds
+    pub falls : Falls (λ i. before (label_of rows i) label) count
+    falls i j h l e = smaller_up_to j l e i (omega arith)
+
+    pub parts : (n : ℕ) → Halved (λ i. before (label_of rows i) label) count n → Parts count rows label n
+    parts n h = record { within = h.within; below = h.below; from = h.from }
 
     pub none_from : (i : ℕ) → before (label_of rows i) label ≡ false → (j : ℕ) → i ≤ j → j < count → before (label_of rows j) label ≡ false
     none_from i e j h l = go (dec_lt i j)

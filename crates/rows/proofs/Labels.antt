@@ -5,9 +5,9 @@ use mathlib.Core.List.{List}
 use Prim.Native.Nat.{ℕ, ◌+◌, ◌-◌, ◌*◌, ◌≤◌, ◌<◌}
 use native.Mathlib.Omega.{arith}
 use native.Mathlib.Decide.{dec_lt}
-use borrow.Author.Tests.{ne_eqb, le-ltb}
+use borrow.Author.Tests.{eq-eqb, ne_eqb, le-ltb}
 use lib.ListN.{length, take, drop, length-take, length-drop}
-use lib.Seq.{take-take, drop-drop}
+use lib.Seq.{take-take, drop-drop, take_all}
 use lib.Dec.{eqb, ltb}
 use Rattle.octets.specs.Numbers.{number_of}
 use Rattle.octets.specs.Strings.{all_zero, before}
@@ -70,35 +70,40 @@ risen rows i h later e = go (all_zero (label_of rows i)) refl
         let z : ◌≡◌ {A = Bool} true false = sym e ∙ sym (rises_after rows i later) ∙ before_zeros (label_of rows (i - 1)) (label_of rows i) long p in
         cc
 
-module _ (rows : List ℕ) (o : Octets rows) where
-  label_octets : (i : ℕ) → Octets (label_of rows i)
-  unfolding label_of
-  label_octets i = octets_take 16 (drop (row_bytes * i) rows) (octets_drop (row_bytes * i) rows o)
+-- the label at a place of a string, by its two numbers
+module _ (s : List ℕ) (at : ℕ) where
+  upper : eight (take 16 (drop at s)) 0 ≡ eight s at
+  upper = ap number_of (take-take 8 16 (drop at s) (omega arith))
 
-  upper : (i : ℕ) → eight (label_of rows i) 0 ≡ eight rows (row_bytes * i)
-  unfolding label_of
-  upper i = ap number_of (take-take 8 16 (drop (row_bytes * i) rows) (omega arith))
-
-  lower : (i : ℕ) → eight (label_of rows i) 8 ≡ eight rows (row_bytes * i + 8)
-  unfolding label_of
-  lower i =
+  lower : eight (take 16 (drop at s)) 8 ≡ eight s (at + 8)
+  lower =
       ap number_of
-      (ap (take 8) (drop-take 8 8 (drop (row_bytes * i) rows) ∙ ap (take 8) (drop-drop 8 (row_bytes * i) rows))
-      ∙ take-take 8 8 (drop (row_bytes * i + 8) rows) (omega arith))
+      (ap (take 8) (drop-take 8 8 (drop at s) ∙ ap (take 8) (drop-drop 8 at s))
+      ∙ take-take 8 8 (drop (at + 8) s) (omega arith))
 
-  -- the label of a row beside another
-  pub before-label :
-      (i : ℕ) (label : List ℕ) → row_bytes * i + row_bytes ≤ length rows → Octets label → length label ≡ 16
-      → before (label_of rows i) label ≡ by_halves (eight rows (row_bytes * i)) (eight rows (row_bytes * i + 8)) (eight label 0) (eight label 8)
-  before-label i label h ol l =
-      before_sixteen (label_of rows i) label (label_octets i) ol (label_length rows i h) l
-      ∙ ap₂ (λ (x y : ℕ). by_halves x y (eight label 0) (eight label 8)) (upper i) (lower i)
+module _ (s t : List ℕ) (os : Octets s) (ot : Octets t) (at from : ℕ) (hs : at + 16 ≤ length s) (ht : from + 16 ≤ length t) where
+  before_labels :
+      before (take 16 (drop at s)) (take 16 (drop from t)) ≡ by_halves (eight s at) (eight s (at + 8)) (eight t from) (eight t (from + 8))
+  before_labels =
+      before_sixteen (take 16 (drop at s)) (take 16 (drop from t))
+      (octets_take 16 (drop at s) (octets_drop at s os)) (octets_take 16 (drop from t) (octets_drop from t ot))
+      (simp (length-take, length-drop) (omega arith)) (simp (length-take, length-drop) (omega arith))
+      ∙ ap₂ (λ (x y : ℕ). by_halves x y (eight (take 16 (drop from t)) 0) (eight (take 16 (drop from t)) 8)) (upper s at) (lower s at)
+      ∙ ap₂ (λ (x y : ℕ). by_halves (eight s at) (eight s (at + 8)) x y) (upper t from) (lower t from)
 
-  -- the labels of two rows
-  pub before_halves :
-      (i j : ℕ) → row_bytes * i + row_bytes ≤ length rows → row_bytes * j + row_bytes ≤ length rows
-      → before (label_of rows i) (label_of rows j)
-      ≡ by_halves (eight rows (row_bytes * i)) (eight rows (row_bytes * i + 8)) (eight rows (row_bytes * j)) (eight rows (row_bytes * j + 8))
-  before_halves i j hi hj =
-      before-label i (label_of rows j) hi (label_octets j) (label_length rows j hj)
-      ∙ ap₂ (λ (x y : ℕ). by_halves (eight rows (row_bytes * i)) (eight rows (row_bytes * i + 8)) x y) (upper j) (lower j)
+  -- the first numbers decide, or where they are the same the second ones
+  pub by_first : (eight s at ≡ eight t from → ⊥) → ltb (eight s at) (eight t from) ≡ before (take 16 (drop at s)) (take 16 (drop from t))
+  by_first n = rw (before_labels, ne_eqb _ _ n)
+
+  pub by_second :
+      eight s at ≡ eight t from
+      → ltb (eight s (at + 8)) (eight t (from + 8)) ≡ before (take 16 (drop at s)) (take 16 (drop from t))
+  by_second e = rw (before_labels, eq-eqb _ _ e)
+
+-- the label of a row beside another
+pub before-label :
+    (rows : List ℕ) (o : Octets rows) (i : ℕ) (label : List ℕ) → row_bytes * i + row_bytes ≤ length rows → Octets label → length label ≡ 16
+    → before (label_of rows i) label ≡ by_halves (eight rows (row_bytes * i)) (eight rows (row_bytes * i + 8)) (eight label 0) (eight label 8)
+unfolding label_of
+before-label rows o i label h ol l =
+    rw (take_all 16 label (omega arith)) at (before_labels rows label o ol (row_bytes * i) 0 (omega arith) (omega arith))

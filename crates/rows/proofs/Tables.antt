@@ -1,16 +1,17 @@
 -- Laws of a table: a test of each row in turn, and the order of the labels. Assumes nothing.
 use mathlib.Core.Path.{◌≡◌, refl, sym, ◌∙◌}
-use mathlib.Core.Bool.{Bool, true, false, ◌&&◌}
+use mathlib.Core.Bool.{Bool, true, false, ◌&&◌, and-true, and_assoc}
 use mathlib.Core.List.{List}
 use Prim.Native.Nat.{ℕ, zero, suc, ◌+◌, ◌-◌, ◌*◌, ◌<◌, ◌≤◌}
 use native.Mathlib.Decide.{dec_lt}
-use native.Mathlib.Nat.{not-suc-le-zero}
+use native.Mathlib.Nat.{add-zero, not-suc-le-zero}
 use native.Mathlib.Numerals.{add-one}
 use native.Mathlib.Omega.{arith}
 use borrow.Author.Tests.{eq-eqb, ne_eqb, le-leb, lt-leb, eqb-true, leb-true}
 use lib.ListN.{length, take, drop, length-drop}
 use lib.Seq.{take_all}
 use lib.Dec.{eqb, leb}
+use Rattle.std.specs.List.{list_all, range_with_len}
 use Rattle.octets.specs.Strings.{before, all_zero}
 use Rattle.octets.proofs.RoundTrips.{and_left, and_right}
 use Rattle.rows.specs.Sizes.{most_rows, table_bytes, row_bytes}
@@ -43,6 +44,18 @@ module _ (test : ℕ → Bool) where
       go : (b : Bool) → test i ≡ b → test i ≡ true
       go true p = p
       go false p = let z : ◌≡◌ {A = Bool} true false = sym e ∙ each_fails n i h p in cc
+
+  -- the same, said of a list of numbers
+  each_from : (a n : ℕ) → each test (a + n) ≡ (each test a && list_all test (range_with_len a n))
+  unfolding each
+  each_from a zero = rw (add-zero a) (sym (and-true (each test a)))
+  each_from a (suc n) =
+      let e : a + suc n ≡ suc a + n = omega arith in
+      rw (e, each_from (suc a) n, add-one a) (and_assoc (each test a) (test a) (list_all test (range_with_len (suc a) n)))
+
+  pub each_listed : (n : ℕ) → list_all test (range_with_len 0 n) ≡ each test n
+  unfolding each
+  each_listed n = let e : 0 + n ≡ n = omega arith in rw e at (sym (each_from 0 n))
 
 pub rises_after : (rows : List ℕ) (i : ℕ) → (i ≡ 0 → ⊥) → before (label_of rows (i - 1)) (label_of rows i) ≡ rises rows i
 unfolding rises

@@ -1,5 +1,5 @@
 -- The search for a label: the one way that the calls find a ledger's row, or the place where it would stand.
-use Rattle.std.specs.Prelude.{◌≡◌, true, false, cond, List, ℕ, zero, suc, min, ◌+◌, ◌/◌, ◌≤◌, ◌<◌, length}
+use Rattle.std.specs.Prelude.{◌≡◌, Bool, true, false, cond, List, ℕ, zero, suc, min, ◌+◌, ◌/◌, ◌≤◌, ◌<◌, length}
 use Rattle.octets.specs.Strings.{same, before}
 use Rattle.rows.specs.Sizes.{row_bytes, most_rows}
 use Rattle.rows.specs.Row.{label_of}
@@ -28,3 +28,13 @@ pub record Parts (count : ℕ) (rows label : List ℕ) (n : ℕ) : Type 0 where
   pub within : n ≤ count
   pub below : (i : ℕ) → i < n → before (label_of rows i) label ≡ true
   pub from : (i : ℕ) → n ≤ i → i < count → before (label_of rows i) label ≡ false
+
+-- a test that holds of a number below `count` holds of each number before it
+abbrev pub Falls : (ℕ → Bool) → ℕ → Type 0
+Falls test count = (i j : ℕ) → i < j → j < count → test j ≡ true → test i ≡ true
+
+-- a test holds of the first n of the numbers below `count`, and of none of the others
+pub record Halved (test : ℕ → Bool) (count n : ℕ) : Type 0 where
+  pub within : n ≤ count
+  pub below : (i : ℕ) → i < n → test i ≡ true
+  pub from : (i : ℕ) → n ≤ i → i < count → test i ≡ false

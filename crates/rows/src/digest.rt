@@ -1,7 +1,5 @@
 // The digest of a roll and the tail after an entry.
 ghost use Rattle.std.specs.Prelude.{◌≡◌, ◌*◌, ◌≤◌, length};
-ghost use Rattle.hash.specs.Promise.{longest};
-ghost use Rattle.hash.specs.Sha256.{sha256};
 ghost use Rattle.rows.specs.Sizes.{row_bytes, most_rows};
 ghost use Rattle.rows.specs.Digests.{digest_of_rows, roll_digest, appended};
 
@@ -12,15 +10,6 @@ const APPEND_MARK: u8 = 1;
 
 const ROLL_MARK: u8 = 2;
 
-fn hashed(message: &[u8]) -> [u8; DIGEST]
-    requires { length message.now ≤ longest }
-    ensures { result ≡ sha256 message.now }
-{
-    let mut digest = [0u8; DIGEST];
-    hash::sha256(message, &mut digest);
-    digest
-}
-
 fn digest_of_rows(n: usize, rows: &[u8]) -> [u8; DIGEST]
     requires { (n ≤ most_rows) × (row_bytes * n ≤ length rows.now) }
     ensures { result ≡ digest_of_rows n rows.now }
@@ -30,7 +19,7 @@ fn digest_of_rows(n: usize, rows: &[u8]) -> [u8; DIGEST]
     message[0] = ROLL_MARK;
     message[1] = n as u8;
     octets::copy_at(&mut message, 2, &rows[..size]);
-    hashed(&message[..2 + size])
+    hash::digest(&message[..2 + size])
 }
 
 // The digest of the roll that the first rows form, `count` of them or as many as there are.
@@ -48,5 +37,5 @@ pub fn appended(tail: [u8; TAIL], entry: [u8; DIGEST]) -> [u8; TAIL]
     message[0] = APPEND_MARK;
     octets::copy_at(&mut message, 1, &tail);
     octets::copy_at(&mut message, 1 + TAIL, &entry);
-    hashed(&message)
+    hash::digest(&message)
 }

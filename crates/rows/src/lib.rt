@@ -2,14 +2,16 @@
 #![tactic(auto)]
 
 mod digest;
+mod order;
 mod parts;
 mod row;
 mod search;
 mod table;
 
 pub use digest::{appended, roll_digest};
+pub use order::{is_label_before, parted};
 pub use parts::{height_at, label_at, tail_at};
-pub use row::row_holds;
+pub use row::{is_next, row_holds};
 pub use search::find;
 pub use table::rows_fit;
 
@@ -18,9 +20,6 @@ pub const DIGEST: usize = 32;
 
 // The bytes of a row's parts, and of a row.
 pub const LABEL: usize = 16;
-
-// A label is two numbers of eight bytes.
-const HALF: usize = LABEL / 2;
 
 pub const TAIL: usize = DIGEST;
 

@@ -1,5 +1,5 @@
-// What makes a row.
-ghost use Rattle.std.specs.Prelude.{◌≡◌, true, cond, ◌&&◌, eqb, leb};
+// What makes a row, and which height comes next.
+ghost use Rattle.std.specs.Prelude.{◌≡◌, true, cond, ◌+◌, ◌&&◌, eqb, leb};
 ghost use Rattle.octets.specs.Strings.{all_zero};
 ghost use Rattle.rows.specs.Sizes.{top_height};
 ghost use Rattle.rows.specs.Row.{row_holds};
@@ -28,4 +28,11 @@ pub fn row_holds(label: &[u8], tail: &[u8], height: u64) -> bool
         return false;
     }
     tail_holds(tail, height)
+}
+
+// Whether a height is the one after another.
+pub fn is_next(expected: u64, height: u64) -> bool
+    ensures { result ≡ eqb expected (height + 1) }
+{
+    height.checked_add(1) == Some(expected)
 }

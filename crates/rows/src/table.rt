@@ -5,8 +5,9 @@ ghost use Rattle.rows.specs.Sizes.{row_bytes, most_rows};
 ghost use Rattle.rows.specs.Row.{label_of, row_fits};
 ghost use Rattle.rows.specs.Table.{each, rises, stands, rows_fit};
 
+use crate::order::is_label_before;
 use crate::row::{row_holds, tail_holds};
-use crate::{HALF, LABEL, MOST, ROW, TABLE, TAIL};
+use crate::{LABEL, MOST, ROW, TABLE, TAIL};
 
 // Whether row i keeps the rules of a row.
 fn row_fits(rows: &[u8], i: usize) -> bool
@@ -41,14 +42,7 @@ fn rises(rows: &[u8], i: usize) -> bool
     if i == 0 {
         return true;
     }
-    let earlier = ROW * (i - 1);
-    let later = ROW * i;
-    let a = octets::number_at(rows, earlier);
-    let b = octets::number_at(rows, later);
-    if a != b {
-        return a < b;
-    }
-    octets::number_at(rows, earlier + HALF) < octets::number_at(rows, later + HALF)
+    is_label_before(rows, ROW * (i - 1), rows, ROW * i)
 }
 
 // Whether row i may stand where it stands. A label that comes after another is not all zero.
@@ -69,14 +63,7 @@ fn all_stand(rows: &[u8], count: usize) -> bool
     requires { row_bytes * count ≤ length rows.now }
     ensures { result ≡ each (stands rows.now) count }
 {
-    let mut i = 0;
-    while i < count {
-        if !stands(rows, i) {
-            return false;
-        }
-        i += 1;
-    }
-    true
+    (0..count).all(|i| stands(rows, i))
 }
 
 // Whether a string is a table whose first rows, `count` of them, form a roll, with zeros after them.

@@ -16,6 +16,6 @@ returns c =
     let g = c.well_formed in
     let t : length a.tail ≡ 32 = omega (arith, g.0) in
     let e : length a.entry ≡ 32 = omega (arith, g.1.0) in
-    c.hashed.ensures ∙ ap sha256 (c.copy_at-2.ensures
+    c.digest.ensures ∙ ap sha256 (c.copy_at-2.ensures
     ∙ ap (λ (d : List ℕ). put d 33 a.entry) c.copy_at.ensures
     ∙ two_put_end _ 1 a.tail a.entry 33 (omega arith) (omega arith))

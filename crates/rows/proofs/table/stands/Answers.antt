@@ -1,5 +1,5 @@
 use mathlib.Core.Path.{sym, ap, ◌∙◌}
-use mathlib.Core.Bool.{Bool, true, false, ◌&&◌, and-true}
+use mathlib.Core.Bool.{Bool, ◌&&◌, and-true}
 use Rattle.rows.specs.Row.{row_fits}
 use Rattle.rows.specs.Table.{rises, stands}
 use Rattle.rows.proofs.Labels.{risen}
