@@ -1,12 +1,9 @@
-// Digests: made by the library, and held to those of the files.
+// Digests: made by the library.
 
 pub const SIZE: usize = 32;
 
-// Whether the library answers that digest is now message's.
-pub fn make(message: &[u8], digest: &mut [u8; SIZE]) -> bool {
-    hash::sha256(message, digest) == 0
-}
-
-pub fn same(a: &[u8; SIZE], b: &[u8; SIZE]) -> bool {
-    check::same(a, b)
+// The digest that the library makes of a message, if it makes one.
+pub fn of(message: &[u8]) -> Option<[u8; SIZE]> {
+    let mut digest = [0u8; SIZE];
+    (hash::sha256(message, &mut digest) == refusals::ACCEPTED).then_some(digest)
 }

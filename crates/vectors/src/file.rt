@@ -1,8 +1,9 @@
 // A file of vectors: read whole, and run by its kind.
 ghost use Rattle.io.specs.Counts.{IsPrefixLen};
 
-use crate::outcome::Outcome;
-use crate::{messages, monte, outcome};
+use crate::outcome::{Failure, Ran};
+use crate::text::{Damaged, Text};
+use crate::{messages, monte};
 use std::fs;
 use std::io::Read;
 use std::rt::Files;
@@ -17,17 +18,17 @@ pub enum Vectors {
     Monte,
 }
 
-pub fn run(rt: &impl Files, name: &str, vectors: Vectors) -> Outcome {
+pub fn run(rt: &impl Files, name: &str, vectors: Vectors) -> Result<Ran, Failure> {
     let Ok(mut file) = fs::open(rt, name) else {
-        return Outcome::Missing;
+        return Err(Failure::Missing);
     };
     let mut room = [0u8; ROOM];
     let size = fill(&mut file, &mut room);
-    if is_at_end(&mut file) {
-        run_text(&room[..size], vectors)
-    } else {
-        outcome::damaged(&room[..size], size)
+    let text = &room[..size];
+    if !is_at_end(&mut file) {
+        return Err(Failure::in_text(text, Damaged { left: 0 }));
     }
+    run_text(text, vectors).map_err(|damaged| Failure::in_text(text, damaged))
 }
 
 // Reads until the room is full, the file ends or a read fails, and answers how many bytes it put at the room's start.
@@ -52,10 +53,11 @@ fn is_at_end(file: &mut impl Read) -> bool {
     matches!(file.read(&mut next), Ok(0))
 }
 
-fn run_text(text: &[u8], vectors: Vectors) -> Outcome {
+fn run_text(text: &[u8], vectors: Vectors) -> Result<Ran, Damaged> {
+    let mut text = Text::new(text);
     match vectors {
-        Vectors::Short => messages::run(text, messages::SHORT),
-        Vectors::Long => messages::run(text, messages::LONG),
-        Vectors::Monte => monte::run(text),
+        Vectors::Short => messages::run(&mut text, messages::SHORT),
+        Vectors::Long => messages::run(&mut text, messages::LONG),
+        Vectors::Monte => monte::run(&mut text),
     }
 }

@@ -2,10 +2,10 @@
 ghost use Rattle.std.specs.Prelude.{◌≤◌, ◌<◌, length};
 ghost use Rattle.vectors.specs.Messages.{Within};
 
+use crate::digest;
 use crate::digest::SIZE;
-use crate::outcome::{Checked, Outcome};
-use crate::place::Place;
-use crate::{digest, outcome, place};
+use crate::outcome::Ran;
+use crate::text::{Damaged, Text};
 
 // The messages of a file: how many, the bytes of the first, and how many bytes each has more than the one before it.
 #[derive(Clone, Copy)]
@@ -41,56 +41,48 @@ impl Messages {
     }
 }
 
-pub fn run(text: &[u8], messages: Messages) -> Outcome
+pub fn run(text: &mut Text, messages: Messages) -> Result<Ran, Damaged>
     requires { Within messages LONGEST }
 {
-    let count = messages.count;
-    let mut place = place::after_header(text);
+    text.header()?;
     let mut differ: u32 = 0;
-    let mut i: u32 = 0;
-    while i < count {
-        let size = messages.size(i);
+    for i in 0..messages.count {
         let mut message = [0u8; LONGEST];
-        let checked = vector(text, place, &mut message[..size]);
-        place = checked.place;
-        if !checked.same {
+        let size = messages.size(i);
+        if !vector(text, &mut message[..size])? {
             differ += 1;
         }
-        i += 1;
     }
-    outcome::of(text, place, count, differ)
+    text.end()?;
+    Ok(Ran {
+        run: messages.count,
+        differ,
+    })
 }
 
-// The next vector, whose message must fill message.
-fn vector(text: &[u8], place: Place, message: &mut [u8]) -> Checked
+// Whether the digest of the next vector, whose message must fill message, is the file's.
+fn vector(text: &mut Text, message: &mut [u8]) -> Result<bool, Damaged>
     requires { length message.old ≤ LONGEST }
 {
-    let bits = 8 * message.len() as u64;
     let mut expected = [0u8; SIZE];
-    let after_length = place
-        .word(text, b"Len = ")
-        .number(text, bits)
-        .line_end(text);
-    let end = read_message(text, after_length, message)
-        .word(text, b"MD = ")
-        .hex(text, &mut expected)
-        .line_end(text)
-        .line_end(text);
-    let mut digest = [0u8; SIZE];
-    Checked {
-        place: end,
-        same: digest::make(message, &mut digest) && digest::same(&digest, &expected),
-    }
+    text.word(b"Len = ")?;
+    text.number(8 * message.len() as u64)?;
+    text.line_end()?;
+    read_message(text, message)?;
+    text.word(b"MD = ")?;
+    text.hex(&mut expected)?;
+    text.line_end()?;
+    text.line_end()?;
+    Ok(digest::of(message) == Some(expected))
 }
 
 // The message of no bytes stands as `00`.
-fn read_message(text: &[u8], place: Place, message: &mut [u8]) -> Place {
-    if message.len() == 0 {
-        place.word(text, b"Msg = 00").line_end(text)
+fn read_message(text: &mut Text, message: &mut [u8]) -> Result<(), Damaged> {
+    if message.is_empty() {
+        text.word(b"Msg = 00")?;
     } else {
-        place
-            .word(text, b"Msg = ")
-            .hex(text, message)
-            .line_end(text)
+        text.word(b"Msg = ")?;
+        text.hex(message)?;
     }
+    text.line_end()
 }

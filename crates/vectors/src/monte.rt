@@ -1,8 +1,8 @@
 // The file of the Monte Carlo test: a seed, and the digests in which chains of digests end.
+use crate::digest;
 use crate::digest::SIZE;
-use crate::outcome::{Checked, Outcome};
-use crate::place::Place;
-use crate::{digest, outcome, place};
+use crate::outcome::Ran;
+use crate::text::{Damaged, Text};
 
 const COUNTS: u32 = 100;
 
@@ -16,72 +16,57 @@ const THIRD: usize = 2 * SIZE;
 
 const END: usize = 3 * SIZE;
 
-pub fn run(text: &[u8]) -> Outcome {
+pub fn run(text: &mut Text) -> Result<Ran, Damaged> {
     let mut seed = [0u8; SIZE];
-    let mut place = place::after_header(text)
-        .word(text, b"Seed = ")
-        .hex(text, &mut seed)
-        .line_end(text)
-        .line_end(text);
+    text.header()?;
+    text.word(b"Seed = ")?;
+    text.hex(&mut seed)?;
+    text.line_end()?;
+    text.line_end()?;
     let mut differ: u32 = 0;
-    let mut i: u32 = 0;
-    while i < COUNTS {
-        let checked = count(text, place, i, &mut seed);
-        place = checked.place;
-        if !checked.same {
+    for i in 0..COUNTS {
+        if !count(text, i, &mut seed)? {
             differ += 1;
         }
-        i += 1;
     }
-    outcome::of(text, place, COUNTS, differ)
+    text.end()?;
+    Ok(Ran {
+        run: COUNTS,
+        differ,
+    })
 }
 
-// The next seed is the chain's own last digest, also where the file has another.
-fn count(text: &[u8], place: Place, number: u32, seed: &mut [u8; SIZE]) -> Checked {
+// Whether the chain from a seed ends in the file's digest. The next seed is the chain's own last digest, also where the file has another.
+fn count(text: &mut Text, number: u32, seed: &mut [u8; SIZE]) -> Result<bool, Damaged> {
     let mut expected = [0u8; SIZE];
-    let end = place
-        .word(text, b"COUNT = ")
-        .number(text, number as u64)
-        .line_end(text)
-        .word(text, b"MD = ")
-        .hex(text, &mut expected)
-        .line_end(text)
-        .line_end(text);
-    Checked {
-        place: end,
-        same: chain(seed) && digest::same(seed, &expected),
-    }
+    text.word(b"COUNT = ")?;
+    text.number(number as u64)?;
+    text.line_end()?;
+    text.word(b"MD = ")?;
+    text.hex(&mut expected)?;
+    text.line_end()?;
+    text.line_end()?;
+    Ok(chain(seed) && *seed == expected)
 }
 
 // Puts the chain's last digest in the seed's place, and answers whether the library made each.
 fn chain(seed: &mut [u8; SIZE]) -> bool {
     let mut last = [0u8; END];
-    append(&mut last, seed);
-    append(&mut last, seed);
-    append(&mut last, seed);
-    let mut i: u32 = 0;
-    while i < LINKS {
-        if !link(&mut last, seed) {
+    for _ in 0..3 {
+        append(&mut last, seed);
+    }
+    for _ in 0..LINKS {
+        let Some(next) = digest::of(&last) else {
             return false;
-        }
-        i += 1;
+        };
+        *seed = next;
+        append(&mut last, seed);
     }
     true
 }
 
-fn link(last: &mut [u8; END], digest: &mut [u8; SIZE]) -> bool {
-    let is_made = digest::make(last, digest);
-    append(last, digest);
-    is_made
-}
-
 // Drops the first of the last three digests and puts a new one behind them.
 fn append(last: &mut [u8; END], digest: &[u8; SIZE]) {
-    let mut i = 0;
-    while i < SIZE {
-        last[i] = last[i + SECOND];
-        last[i + SECOND] = last[i + THIRD];
-        last[i + THIRD] = digest[i];
-        i += 1;
-    }
+    last.copy_within(SECOND.., 0);
+    last[THIRD..].copy_from_slice(digest);
 }

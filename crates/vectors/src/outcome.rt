@@ -1,69 +1,44 @@
-// What comes of a vector, and of a file of them.
-use crate::place;
-use crate::place::Place;
+// What comes of a file of vectors.
+use crate::text::Damaged;
+use std::fmt;
 
-// Where a vector ends in its text, and whether the library made its digest.
+// How many vectors were run, and of how many the digests differ.
 #[derive(Clone, Copy)]
-pub struct Checked {
-    pub place: Place,
-    pub same: bool,
-}
-
-#[derive(Clone, Copy)]
-pub enum Outcome {
-    Missing,
-    // The number of the line that is not as it must be.
-    Damaged(u64),
-    Ran { run: u32, differ: u32 },
-}
-
-// What a file adds to the totals.
-#[derive(Clone, Copy)]
-pub struct Counts {
+pub struct Ran {
     pub run: u32,
     pub differ: u32,
-    pub damaged: u32,
 }
 
-impl Outcome {
-    // No vector counts of a file that is damaged or missing.
-    pub fn counts(self) -> Counts {
+// Why no vector of a file counts.
+#[derive(Clone, Copy)]
+pub enum Failure {
+    Missing,
+    // The number of the line that is not as it must be.
+    Damaged { line: u64 },
+}
+
+impl Failure {
+    // The line is the one that the last line end before the damage begins.
+    pub fn in_text(text: &[u8], damaged: Damaged) -> Failure {
+        let before = &text[..text.len().saturating_sub(damaged.left)];
+        let ends = before.iter().filter(|b| **b == b'\n').count();
+        Failure::Damaged {
+            line: 1 + ends as u64,
+        }
+    }
+}
+
+impl fmt::Display for Ran {
+    fn fmt<W: fmt::Write>(&self, f: &mut fmt::Formatter<W>) -> fmt::Result {
+        write!(f, "{} run, {} differ", self.run, self.differ)
+    }
+}
+
+impl fmt::Display for Failure {
+    fn fmt<W: fmt::Write>(&self, f: &mut fmt::Formatter<W>) -> fmt::Result {
         match self {
-            Outcome::Ran { run, differ } => Counts {
-                run,
-                differ,
-                damaged: 0,
-            },
-            _ => Counts {
-                run: 0,
-                differ: 0,
-                damaged: 1,
-            },
+            Failure::Missing => write!(f, "missing"),
+            Failure::Damaged { line } => write!(f, "damaged at line {line}"),
         }
     }
-}
-
-// The vectors count only where the text ends with the last of them.
-pub fn of(text: &[u8], place: Place, run: u32, differ: u32) -> Outcome {
-    match place.text_end(text) {
-        Place::At(_) => Outcome::Ran { run, differ },
-        Place::Damaged(at) => damaged(text, at),
-    }
-}
-
-pub fn damaged(text: &[u8], at: usize) -> Outcome {
-    Outcome::Damaged(lines(place::part(text, 0, at)))
-}
-
-// How many lines text has, with the one that its last line end begins.
-fn lines(text: &[u8]) -> u64 {
-    let mut n: u64 = 1;
-    let mut i = 0;
-    while i < text.len() {
-        if text[i] == b'\n' {
-            n += 1;
-        }
-        i += 1;
-    }
-    n
 }
