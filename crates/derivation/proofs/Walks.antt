@@ -15,7 +15,9 @@ use Rattle.octets.proofs.Orders.{before_self, before_trans}
 use Rattle.octets.proofs.RoundTrips.{and_left, and_right, same_is, same_refl}
 use Rattle.rows.specs.Row.{label_of, tail_of, height_of}
 use Rattle.rows.specs.Table.{rows_fit}
-use Rattle.std.specs.Prelude.{Result, Ok, Err}
+use Rattle.std.specs.Prelude.{Option, Result, Ok, Err}
+use Rattle.std.specs.Bool.{then_some}
+use Rattle.std.specs.Option.{IfSome, is_some, unwrap_or}
 use Rattle.rows.proofs.Tables.{each_of}
 use Rattle.rows.proofs.Searches.{found_is, absent_is}
 use Rattle.rows.proofs.InOrder.{in_order}
@@ -43,6 +45,29 @@ module _ (old : Roll) (q : ℕ) (label : List ℕ) where
   is_there : q < old.count → label_of old.rows q ≡ label → is_next old q label ≡ true
   unfolding is_next
   is_there h e = rw (lt-ltb q old.count h, e) (same_refl label)
+
+-- what the walk hands on of the next row: itself where it has the label
+pub old_there : (t : Bool) (q : ℕ) (o : Option ℕ) → o ≡ then_some t q → is_some o ≡ t
+old_there true q o e = ap is_some e
+old_there false q o e = ap is_some e
+
+module _ (old : Roll) (q : ℕ) (label : List ℕ) (o : Option ℕ) (e : o ≡ then_some (is_next old q label) q) where
+  pub old_within : IfSome o (λ j. j < old.count)
+  old_within = rw e (go (is_next old q label) refl)
+    where
+      go : (t : Bool) → is_next old q label ≡ t → IfSome (then_some t q) (λ j. j < old.count)
+      go true f = (next_is old q label f).0
+      go false f = tt
+
+  pub old_from :
+      (ours : List ℕ) (r : ℕ) (s : List ℕ) (n : ℕ)
+      → derived_from old (unwrap_or o 0) (is_some o) ours r s n ≡ derived_from old q (is_next old q label) ours r s n
+  unfolding derived_from
+  old_from ours r s n = rw e (go (is_next old q label))
+    where
+      go : (t : Bool) → derived_from old (unwrap_or (then_some t q) 0) (is_some (then_some t q)) ours r s n ≡ derived_from old q t ours r s n
+      go true = refl
+      go false = refl
 
 pub passed_next : (old : Roll) (rows : List ℕ) (r : ℕ) → passed old rows (r + 1) ≡ after (passed old rows r) (met old rows r)
 unfolding passed

@@ -1,24 +1,15 @@
-use mathlib.Core.Path.{◌≡◌, refl, sym, ap₂, ◌∙◌}
-use Prim.Native.Nat.{◌/◌}
-use native.Mathlib.Omega.{arith}
-use lib.ListN.{length}
+use Rattle.std.proofs.Common.{rules, ◌∙◌, ◌/◌, length}
+use Rattle.std.specs.Simd.{first_chunks}
+use Rattle.std.proofs.lemmas.Iterator.{YieldsList-from_slice}
+use Rattle.std.proofs.lemmas.Iterator.Consumers.{fold_from_yields_List}
 use Rattle.rows.specs.Digests.{appended}
-use Rattle.rules.specs.Derivation.{grown}
-use Rattle.derivation.proofs.Growths.{grown_more}
+use Rattle.derivation.proofs.Growths.{folded}
 use Rattle.derivation.proofs.growth.grown.Goals as goal
-
-pub loop-i-init : goal.loop-i-init
-unfolding grown
-loop-i-init c = (omega arith, refl)
-
-pub loop-i-preserved : goal.loop-i-preserved
-loop-i-preserved c =
-    let a = c.args in
-    let l = c.loop-i in
-    (omega arith, c.appended-next.ensures ∙ ap₂ appended l.invariant.1 c.digest_at.ensures ∙ sym (grown_more _ a.s.now l.i))
 
 pub returns : goal.returns
 returns c =
-    let l = c.loop-i in
-    let e : l.i ≡ length c.args.s.now / 32 = omega arith in
-    rw e at l.invariant.1
+    let s = c.args.s.now in
+    fold_from_yields_List _ appended c.args.tail c.fold.result c.fold.ensures.ran
+    (YieldsList-from_slice (first_chunks 32 (length s / 32) s) (cc (c.iter.ensures.rest, c.as_chunks.ensures.front)))
+    (λ a x b q k. search rules)
+    ∙ folded c.args.tail s (length s / 32)

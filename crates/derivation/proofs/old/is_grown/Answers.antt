@@ -1,21 +1,23 @@
-use mathlib.Core.Path.{sym, ap, ap₂, ◌∙◌}
+use mathlib.Core.Path.{◌≡◌, sym, ap, ap₂, ◌∙◌}
 use Prim.Native.Nat.{◌+◌, ◌/◌}
-use borrow.Author.Tests.{not-false}
 use lib.ListN.{length}
 use lib.Dec.{eqb}
 use Rattle.octets.specs.Strings.{same}
+use Rattle.octets.proofs.Compared.{same_pointwise}
+use Rattle.rows.specs.Row.{height_of}
+use Rattle.derivation.proofs.Growths.{difference}
 use Rattle.derivation.proofs.old.is_grown.Goals as goal
+use Rattle.derivation.proofs.old.is_grown.Goals.{After-eq}
 
-pub returns-then-not-is_higher_by : goal.returns-then-not-is_higher_by
-returns-then-not-is_higher_by c =
+heights : (c : After-eq) → c.eq.result ≡ eqb (c.args.height + length c.args.s.now / 32) (height_of c.args.ours.now c.args.r)
+heights c =
     let a = c.args in
-    let heights = c.is_higher_by.ensures ∙ ap (eqb (a.height + length a.s.now / 32)) c.height_at.ensures in
-    rw (sym heights ∙ c.if-not-is_higher_by.true)
+    c.eq.ensures ∙ difference a.height _ _ c.checked_sub.result c.checked_sub.ensures ∙ ap (eqb (a.height + length a.s.now / 32)) c.height_at.ensures
 
-pub returns : goal.returns
-returns c =
-    let if1 = c in
-    let a = if1.args in
-    let heights = if1.is_higher_by.ensures ∙ ap (eqb (a.height + length a.s.now / 32)) if1.height_at.ensures in
-    rw (sym heights ∙ if1.if-not-is_higher_by.false)
-    (c.is_same.ensures ∙ ap₂ same c.grown-last.ensures c.tail_at.ensures)
+pub returns-then-eq : goal.returns-then-eq
+returns-then-eq c =
+    rw (sym (heights (goal.at.returns-then-eq c).After-eq) ∙ c.if-eq.true)
+    (c.eq-then-eq.ensures ∙ same_pointwise _ _ ∙ ap₂ same c.grown.ensures c.tail_at.ensures)
+
+pub returns-else-eq : goal.returns-else-eq
+returns-else-eq c = rw (sym (heights (goal.at.returns-else-eq c).After-eq) ∙ c.if-eq.false) c.if-eq.false
