@@ -16,21 +16,15 @@ pub const FINALISED: u8 = 3;
 fn is_counted(status: u8, count: u8) -> bool
     ensures { result ≡ cond (eqb status blank) (eqb count 0) true }
 {
-    if status == BLANK {
-        return count == 0;
-    }
-    true
+    status != BLANK || count == 0
 }
 
 // Whether the record is sound.
+#[tactic(auto, unfolding(rules::specs::Record::sound))]
 pub fn is_sound(head: Head, table: &[u8]) -> bool
     ensures { result ≡ sound head table.now }
 {
-    if FINALISED < head.status {
-        return false;
-    }
-    if !is_counted(head.status, head.count) {
-        return false;
-    }
-    rows::rows_fit(table, head.count as usize)
+    head.status <= FINALISED
+        && is_counted(head.status, head.count)
+        && rows::rows_fit(table, head.count as usize)
 }

@@ -1,12 +1,11 @@
 // Wake.
 ghost use Rattle.std.specs.Prelude.{◌≡◌, []};
-ghost use Rattle.rules.specs.Outcomes.{Lent, outcome};
+ghost use Rattle.rules.specs.Outcomes.{Lent, outcome, told};
 ghost use Rattle.rules.specs.Wake.{woken, waking};
 
-use crate::answers::{acceptance, refusal};
 use crate::soundness::BLANK;
-use octets::clear;
-use rules::{Head, Told};
+use refusals::Refusal;
+use rules::{Done, Head};
 
 fn blank_head(key: [u8; 32]) -> Head
     ensures { result ≡ woken key }
@@ -24,12 +23,16 @@ fn blank_head(key: [u8; 32]) -> Head
 }
 
 // The record becomes blank, with this key, whatever it was.
-pub fn wake(head: Head, table: &mut [u8], key: [u8; 32]) -> Told
-    ensures { outcome result table.new [] ≡ waking (record { head = head; table = table.old; area = [] }) key }
+pub fn wake(head: Head, table: &mut [u8], key: [u8; 32]) -> Result<Done, Refusal>
+    ensures { outcome (told head result) table.new [] ≡ waking (record { head = head; table = table.old; area = [] }) key }
 {
     if table.len() != rows::TABLE {
-        return refusal(refusals::RECORD_NOT_SOUND, 0, head);
+        return Err(Refusal::RecordNotSound);
     }
-    clear(table);
-    acceptance(0, blank_head(key))
+    table.fill(0);
+    Ok(Done {
+        written: 0,
+        repeat: false,
+        head: blank_head(key),
+    })
 }

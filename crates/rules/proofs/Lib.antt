@@ -11,6 +11,7 @@ pub mod NewPlace
 pub mod Finalised
 pub mod Somes
 pub mod Tolds
+pub mod Ones
 pub mod Derived
 pub mod Activated
 pub mod TablesChanged

@@ -1,24 +1,22 @@
 -- Laws of what a call tells by its result: a refusal is told as the rule that its tests refuse, an acceptance as the rule that none refuses. Assumes nothing.
-use mathlib.Core.Path.{◌≡◌, refl, ◌∙◌}
+use mathlib.Core.Path.{◌≡◌, refl, ap, ◌∙◌}
 use mathlib.Core.Bool.{Bool, true, false}
 use mathlib.Core.List.{List}
 use Prim.Native.Nat.{ℕ}
-use native.Mathlib.Omega.{arith}
 use borrow.Author.Tests.{eqb-true, eq-eqb, ne_eqb}
 use lib.ListN.{length}
 use lib.Dec.{eqb}
-use Rattle.std.specs.Prelude.{Ok, Err}
+use Rattle.std.specs.Prelude.{Result, Ok, Err}
+use Rattle.std.specs.Result.{IsErrAnd}
+use Rattle.std.proofs.lemmas.Result.{err_from_is_err_and}
 use Rattle.refusals.specs.{accepted, out_of_order}
 use Rattle.refusals.specs.declared.Refusal.{Refusal}
 use Rattle.refusals.specs.Refused.{refusal_number, refusal_height}
+use Rattle.refusals.proofs.Answered.{number_refuses}
 use Rattle.octets.specs.Strings.{put}
 use Rattle.rules.specs.declared.Head.{Head}
 use Rattle.rules.specs.declared.Done.{Done}
 use Rattle.rules.specs.Outcomes.{Lent, Outcome, outcome, refusing, told, refused, given, unless}
-
--- a refusal is no acceptance
-pub no_acceptance : (r : Refusal) → refusal_number r ≡ accepted → ⊥
-no_acceptance r e = grind arith
 
 module _ (r : Refusal) (n height : ℕ) (e : refusal_number r ≡ n) where
   -- the answer of a refusal that shows the height where it is out of order
@@ -37,13 +35,13 @@ pub refused_told :
     (k : Lent) (r : Refusal) (n height : ℕ) (effect : Outcome) → refusal_number r ≡ n → (n ≡ out_of_order → refusal_height r ≡ height)
     → outcome (told k.head (Err r)) k.table k.area ≡ unless n height k effect
 unfolding refused unless
-refused_told k r n height effect e shows = rw (ne_eqb n accepted (λ z. no_acceptance r (e ∙ z)), refusing_as r n height e shows)
+refused_told k r n height effect e shows = rw (ne_eqb n accepted (λ z. number_refuses r (e ∙ z)), refusing_as r n height e shows)
 
 pub refused_alone :
     (k : Lent) (r : Refusal) (n height : ℕ) (effect : Outcome) → refusal_number r ≡ n → eqb n out_of_order ≡ false
     → outcome (told k.head (Err r)) k.table k.area ≡ unless n height k effect
 unfolding refused unless
-refused_alone k r n height effect e other = rw (ne_eqb n accepted (λ z. no_acceptance r (e ∙ z)), refusing_alone r n height e other)
+refused_alone k r n height effect e other = rw (ne_eqb n accepted (λ z. number_refuses r (e ∙ z)), refusing_alone r n height e other)
 
 -- a call that is accepted
 pub done_told :
@@ -52,3 +50,7 @@ pub done_told :
     → outcome (told k.head (Ok d)) t a ≡ unless n height k (given bytes head table k.area)
 unfolding given unless
 done_told k d n height bytes table t a head h e f g = rw (eq-eqb n accepted h, e, f, g)
+
+-- what `?` hands on, at a goal that names the result: `handed_on _ _ c.from_residual.ensures.1`
+pub handed_on : {A : Type 0} (q : Result A Refusal) (r : Refusal) → IsErrAnd q (λ y. y ≡ r) → q ≡ Err r
+handed_on q r h = let p = err_from_is_err_and q h in p.1 ∙ ap (λ (y : Refusal). Err y) p.2

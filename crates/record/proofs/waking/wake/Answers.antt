@@ -1,24 +1,25 @@
-use mathlib.Core.Path.{ap, ap₂, ◌∙◌}
-use mathlib.Core.List.{List, []}
-use Prim.Native.Nat.{ℕ}
+use mathlib.Core.Path.{◌≡◌, refl, ap}
+use mathlib.Core.Bool.{false}
+use mathlib.Core.List.{[]}
+use native.Mathlib.Omega.{arith}
 use borrow.Author.Tests.{eq-eqb, ne_eqb}
-use Rattle.refusals.specs.Order.{first}
+use lib.ListN.{length, replicate}
+use Rattle.std.proofs.lemmas.Grind.{common_steps}
 use Rattle.octets.specs.Strings.{put}
+use Rattle.refusals.specs.declared.Refusal.TheVariants.{RecordNotSound}
+use Rattle.refusals.specs.Order.{first}
 use Rattle.rules.specs.declared.Head.{Head}
-use Rattle.rules.specs.declared.Told.{Told}
-use Rattle.rules.specs.Outcomes.{accepting, outcome, refused, given, unless}
 use Rattle.rules.specs.Wake.{waking}
+use Rattle.rules.proofs.Tolds.{refused_alone, done_told}
 use Rattle.record.proofs.waking.wake.Goals as goal
 
 pub returns-then-table-ne-TABLE : goal.returns-then-table-ne-TABLE
-unfolding first refused unless waking
-returns-then-table-ne-TABLE c =
-    let a = c.args in
-    rw (ne_eqb _ _ c.if-table-ne-TABLE.true) (ap (λ (r : Told). outcome r a.table.now []) c.refusal.ensures)
+unfolding first waking
+returns-then-table-ne-TABLE c = rw (ne_eqb _ _ c.if-table-ne-TABLE.true) (refused_alone _ RecordNotSound _ 0 _ refl refl)
 
 pub returns : goal.returns
-unfolding put first given unless waking
+unfolding first put waking
 returns c =
+    let cleared : c.fill.new.self ≡ replicate (length c.args.table.now) 0 = grind (arith, common_steps) in
     rw (eq-eqb _ _ c.if-table-ne-TABLE.false)
-    (ap₂ (λ (r : Told) (t : List ℕ). outcome r t [])
-    (c.acceptance.ensures ∙ ap (λ (h : Head). record { answer = accepting 0; head = h }) c.blank_head.ensures) c.clear.ensures)
+    (done_told _ _ 0 0 [] _ _ _ _ refl (ap (λ (h : Head). record { written = 0; repeat = false; head = h }) c.blank_head.ensures) cleared refl)
