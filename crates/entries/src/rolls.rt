@@ -12,13 +12,10 @@ pub fn rolls_hold(s: &[u8]) -> bool
     requires { (new_at s.now < length s.now) × (length s.now ≤ longest_bundle) }
     ensures { result ≡ each (roll_held s.now) (old_count s.now) }
 {
-    let count = old_count(s);
-    let mut i = 0;
-    while i < count {
+    for i in 0..old_count(s) {
         if !is_roll(old_roll(s, i)) {
             return false;
         }
-        i += 1;
     }
     true
 }

@@ -11,26 +11,26 @@ use Rattle.bundle.proofs.Places.{old_next, old_before_new}
 use Rattle.entries.specs.Asked.{roll_held}
 use Rattle.entries.proofs.rolls.rolls_hold.Goals as goal
 
-pub old_count-count-requires : goal.old_count-count-requires
-old_count-count-requires c = omega (arith, c.requires.0)
+pub old_count-i-end-requires : goal.old_count-i-end-requires
+old_count-i-end-requires c = omega (arith, c.requires.0)
 
 pub loop-i-init : goal.loop-i-init
 unfolding each
-loop-i-init c = (omega arith, refl)
+loop-i-init c = refl
 
 pub old_roll-requires : goal.old_roll-requires
 old_roll-requires c =
     let start = c in
     let s = start.args.s.now in
     let l = c.loop-i in
-    let h : l.i < old_count s = omega (arith, c.old_count-count.ensures) in
+    let h : l.i < old_count s = omega (arith, c.old_count-i-end.ensures) in
     (omega (arith, start.requires.0, old_next s l.i, old_before_new s l.i h), start.requires.1)
 
 pub returns-then-not-is_roll : goal.returns-then-not-is_roll
 returns-then-not-is_roll c =
     let s = c.args.s.now in
     let l = c.loop-i in
-    let h : l.i < old_count s = omega (arith, c.old_count-count.ensures) in
+    let h : l.i < old_count s = omega (arith, c.old_count-i-end.ensures) in
     let held : c.is_roll.result ≡ roll_held s l.i = c.is_roll.ensures ∙ ap (holds roll_layout) c.old_roll.ensures in
     sym (each_fails (roll_held s) (old_count s) l.i h (sym held ∙ c.if-not-is_roll.true))
 
@@ -39,11 +39,11 @@ loop-i-preserved c =
     let s = c.args.s.now in
     let l = c.loop-i in
     let held : c.is_roll.result ≡ roll_held s l.i = c.is_roll.ensures ∙ ap (holds roll_layout) c.old_roll.ensures in
-    (omega arith, each_next (roll_held s) l.i l.invariant.1 (sym held ∙ c.if-not-is_roll.false))
+    each_next (roll_held s) l.i l.invariant (sym held ∙ c.if-not-is_roll.false)
 
 pub returns : goal.returns
 returns c =
     let s = c.args.s.now in
     let l = c.loop-i in
-    let e : l.i ≡ old_count s = omega (arith, c.old_count-count.ensures) in
-    sym (rw e at l.invariant.1)
+    let e : l.i ≡ old_count s = omega (arith, c.old_count-i-end.ensures) in
+    sym (rw e at l.invariant)
