@@ -1,4 +1,4 @@
-// Handover bundles: whether a string is one, where its parts stand, and the refusals of its marks.
+// Handover bundles: whether a string is one, where its parts stand, and the tests of its marks.
 #![tactic(auto)]
 
 mod fitting;
@@ -7,7 +7,7 @@ mod parts;
 mod walks;
 
 pub use fitting::is_bundle;
-pub use marked::{unmarked_new, unmarked_old};
+pub use marked::{check_new_marks, check_old_marks};
 pub use parts::{digests, new_entries, old_roll};
 pub use walks::{
     added_at, first_list, list_at, new_at, new_count, next_list, next_old, old_at, old_count,

@@ -1,12 +1,12 @@
 -- Laws of the tests of a bundle's entries in their order: which part decides. Assumes nothing.
 use mathlib.Core.Path.{◌≡◌, refl, sym, ◌∙◌}
-use mathlib.Core.Bool.{true, false, not, ◌&&◌}
+use mathlib.Core.Bool.{true, false, not}
 use mathlib.Core.List.{List, [], ◌∷◌, ◌++◌}
 use Prim.Native.Nat.{ℕ}
 use native.Mathlib.Omega.{arith}
 use lib.Dec.{eqb}
 use Rattle.refusals.specs.{accepted, too_few, signature_not_valid, initialise_not_valid}
-use Rattle.refusals.specs.Order.{Test, ◌⇒◌, first}
+use Rattle.refusals.specs.Order.{Test, first}
 use Rattle.refusals.proofs.Orders.{numbered, stops, goes_on, refuses, lets_by}
 use Rattle.octets.proofs.RoundTrips.{and_left, and_right}
 use Rattle.marks.specs.Entries.{marks_tests, pair_marks}

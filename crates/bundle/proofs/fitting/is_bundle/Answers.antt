@@ -1,6 +1,5 @@
-use Rattle.std.proofs.Common.{rules, arith}
+use Rattle.std.proofs.Common.{rules}
 use Rattle.bundle.proofs.Deciding.{tested}
-use Rattle.std.proofs.lemmas.Grind.{common_steps}
 use Rattle.bundle.proofs.fitting.is_bundle.Goals as goal
 
 pub returns-then-new_entries_fit : goal.returns-then-new_entries_fit
