@@ -9,16 +9,14 @@ use statement::{Kind, Statement};
 pub fn receipt(head: Head, kind: Kind, label: [u8; 16], tail: [u8; 32]) -> Statement
     ensures { result ≡ receipt_of head kind label tail }
 {
-    let identity = head.identity;
-    let own = head.own;
-    let none = [0u8; 32];
+    let Head { identity, own, .. } = head;
     Statement {
         kind,
         identity,
         own,
         label,
         tail,
-        other: none,
-        roll: none,
+        other: [0; 32],
+        roll: [0; 32],
     }
 }
