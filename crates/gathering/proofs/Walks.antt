@@ -1,6 +1,6 @@
 -- Laws of a walk over the old entries: each lies within, has a roll, and adds a row of the label. Assumes nothing.
-use mathlib.Core.Path.{◌≡◌, refl, sym, ap, ◌∙◌}
-use mathlib.Core.Bool.{Bool, true, false, cond, ◌&&◌, ◌||◌}
+use mathlib.Core.Path.{◌≡◌}
+use mathlib.Core.Bool.{true, false, cond}
 use mathlib.Core.List.{List}
 use Prim.Native.Nat.{ℕ, ◌+◌, ◌*◌, ◌<◌, ◌≤◌}
 use native.Mathlib.Numerals.{add-one}
@@ -9,16 +9,14 @@ use lib.ListN.{length, take, drop}
 use lib.Dec.{ltb}
 use Rattle.octets.specs.Layouts.{holds}
 use Rattle.octets.specs.Strings.{all_zero, before}
-use Rattle.rows.specs.Table.{each}
 use Rattle.rows.proofs.Tables.{each_of}
 use Rattle.roll.specs.Blocks.{block_bytes}
 use Rattle.roll.specs.Roll.{roll_layout}
 use Rattle.roll.specs.Places.{Spread}
 use Rattle.roll.proofs.Spreads.{roll_spread}
-use Rattle.rules.specs.Bundle.{byte, old_count, old_at, old_roll, new_at}
+use Rattle.rules.specs.Bundle.{byte, old_count, old_at, old_roll}
 use Rattle.rules.specs.Derivation.{roll_of}
 use Rattle.bundle.proofs.Places.{old_before_new}
-use Rattle.maker.specs.declared.Highest.{Highest}
 use Rattle.maker.specs.Rolls.{old_height, old_tail, highest_of, nearest, nearest_in, next_of}
 use Rattle.gathering.specs.Old.{Given, row_of}
 

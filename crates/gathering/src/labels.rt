@@ -22,10 +22,7 @@ fn nearer(last: [u8; LABEL], best: [u8; LABEL], label: [u8; LABEL]) -> [u8; LABE
     if !is_before(&last, &label) {
         return best;
     }
-    if is_zero(&best) {
-        return label;
-    }
-    if is_before(&label, &best) {
+    if is_zero(&best) || is_before(&label, &best) {
         return label;
     }
     best
@@ -63,14 +60,12 @@ fn place_after(roll: &[u8], last: [u8; LABEL], guess: usize) -> usize
         × (result < (roll_layout.cut roll.now).count → before last (label_of (roll_layout.cut roll.now).rows result) ≡ true) }
 {
     let count = count_in(roll);
-    let mut q = guessed(roll, last, guess);
-    while q < count {
+    for q in guessed(roll, last, guess)..count {
         if is_after(roll, q, last) {
             return q;
         }
-        q += 1;
     }
-    q
+    count
 }
 
 // What was found, or a label of a roll that is nearer after `last`: since labels rise, the first after it.
@@ -90,15 +85,12 @@ pub fn next_label(e: &[u8], last: [u8; LABEL], guess: usize) -> [u8; LABEL]
     requires { Given e.now }
     ensures { result ≡ next_of e.now last (old_count e.now) }
 {
-    let count = old_count(e);
     let mut found = [0u8; LABEL];
-    let mut at: usize = 1;
-    let mut i = 0;
-    while i < count {
+    let mut at = 1;
+    for _ in 0..old_count(e) {
         let next = nearest_in(roll_at(e, at), last, found, guess);
         found = next;
         at = next_old(e, at);
-        i += 1;
     }
     found
 }

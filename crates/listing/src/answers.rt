@@ -11,7 +11,7 @@ use crate::once::only_block;
 use cabinet::DIGEST_PLACE;
 use checks::BLOCK;
 use maker::Highest;
-use octets::{copy_at, is_same};
+use octets::{array_at, is_same};
 use rows::{DIGEST, LABEL, appended};
 use store::first_answer;
 
@@ -20,10 +20,7 @@ fn digest_at(store: &[u8], i: usize) -> [u8; DIGEST]
     requires { block_bytes * i + block_bytes ≤ length store.now }
     ensures { result ≡ digest_in (block_at store.now i) }
 {
-    let from = BLOCK * i + DIGEST_PLACE;
-    let mut digest = [0u8; DIGEST];
-    copy_at(&mut digest, 0, &store[from..from + DIGEST]);
-    digest
+    array_at(store, BLOCK * i + DIGEST_PLACE)
 }
 
 // The digest that the store's read answers for a label and a height. A block is hashed only where several have both.
@@ -36,14 +33,7 @@ pub fn digest_for(store: &[u8], label: [u8; LABEL], height: u64) -> [u8; DIGEST]
     if only < blocks {
         return digest_at(store, only);
     }
-    let i = first_answer(store, &label, height, blocks);
-    digest_at(store, i)
-}
-
-fn is_tail(a: [u8; DIGEST], b: [u8; DIGEST]) -> bool
-    ensures { result ≡ same a b }
-{
-    is_same(&a, &b)
+    digest_at(store, first_answer(store, &label, height, blocks))
 }
 
 // Whether the store answers each height above a row up to the highest, and its digests lead to the highest tail.
@@ -52,19 +42,13 @@ pub fn leads_on(store: &[u8], label: [u8; LABEL], row: Highest, top: Highest) ->
     ensures { result ≡ leads_on store.now label row top }
 {
     let blocks = store.len() / BLOCK;
-    let height = row.height;
-    let n = top.height - height;
     let mut tail = row.tail;
-    let mut d: u64 = 0;
-    while d < n {
-        let i = first_answer(store, &label, height + (d + 1), blocks);
+    for d in 0..top.height - row.height {
+        let i = first_answer(store, &label, row.height + (d + 1), blocks);
         if i == blocks {
             return false;
         }
-        let next = appended(tail, digest_at(store, i));
-        tail = next;
-        d += 1;
+        tail = appended(tail, digest_at(store, i));
     }
-    let last = top.tail;
-    is_tail(tail, last)
+    is_same(&tail, &top.tail)
 }

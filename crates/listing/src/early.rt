@@ -15,10 +15,7 @@ fn has_label(roll: &[u8], label: [u8; LABEL]) -> bool
     requires { holds roll_layout roll.now ≡ true }
     ensures { result ≡ has_label roll.now label }
 {
-    let Ok(_) = find_in(roll, label) else {
-        return false;
-    };
-    true
+    find_in(roll, label).is_ok()
 }
 
 // Whether one of the first n old rolls has a label.
@@ -26,14 +23,12 @@ pub fn is_early(e: &[u8], n: usize, label: [u8; LABEL]) -> bool
     requires { Given e.now × (n ≤ old_count e.now) }
     ensures { result ≡ some (λ i. has_label (old_roll e.now i) label) n }
 {
-    let mut at: usize = 1;
-    let mut i = 0;
-    while i < n {
+    let mut at = 1;
+    for _ in 0..n {
         if has_label(roll_at(e, at), label) {
             return true;
         }
         at = next_old(e, at);
-        i += 1;
     }
     false
 }

@@ -20,15 +20,12 @@ fn led_to(e: &[u8], store: &[u8], label: [u8; LABEL], top: Highest) -> bool
     requires { Given e.now × (area_right store.now ≡ true) × (top ≡ rolls.highest e.now label) }
     ensures { result ≡ rule.led e.now store.now label }
 {
-    let count = old_count(e);
-    let mut at: usize = 1;
-    let mut i = 0;
-    while i < count {
+    let mut at = 1;
+    for _ in 0..old_count(e) {
         if !leads_on(store, label, old_row(roll_at(e, at), label), top) {
             return false;
         }
         at = next_old(e, at);
-        i += 1;
     }
     true
 }
@@ -38,10 +35,7 @@ fn is_led(e: &[u8], store: &[u8], n: usize, label: [u8; LABEL]) -> bool
     requires { Given e.now × (area_right store.now ≡ true) × (n ≤ old_count e.now) × (each (rule.roll_led e.now store.now) n ≡ true) }
     ensures { result ≡ rule.led e.now store.now label }
 {
-    if is_early(e, n, label) {
-        return true;
-    }
-    led_to(e, store, label, highest(e, label))
+    is_early(e, n, label) || led_to(e, store, label, highest(e, label))
 }
 
 // Whether each label of old roll n is led.
@@ -50,13 +44,10 @@ fn roll_led(e: &[u8], store: &[u8], n: usize, roll: &[u8]) -> bool
         × (roll.now ≡ old_roll e.now n) }
     ensures { result ≡ rule.roll_led e.now store.now n }
 {
-    let count = count_in(roll);
-    let mut q = 0;
-    while q < count {
+    for q in 0..count_in(roll) {
         if !is_led(e, store, n, label_in(roll, q)) {
             return false;
         }
-        q += 1;
     }
     true
 }
@@ -66,15 +57,12 @@ pub fn all_led(e: &[u8], store: &[u8]) -> bool
     requires { Given e.now × (area_right store.now ≡ true) }
     ensures { result ≡ rule.all_led e.now store.now }
 {
-    let count = old_count(e);
-    let mut at: usize = 1;
-    let mut i = 0;
-    while i < count {
+    let mut at = 1;
+    for i in 0..old_count(e) {
         if !roll_led(e, store, i, roll_at(e, at)) {
             return false;
         }
         at = next_old(e, at);
-        i += 1;
     }
     true
 }

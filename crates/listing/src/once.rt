@@ -14,10 +14,7 @@ fn has_both(store: &[u8], i: usize, label: &[u8], height: u64) -> bool
     ensures { result ≡ has_both store.now label.now height i }
 {
     let from = BLOCK * i;
-    if number_at(store, from + HEIGHT_PLACE) != height {
-        return false;
-    }
-    is_same(&store[from..from + LABEL], label)
+    number_at(store, from + HEIGHT_PLACE) == height && is_same(&store[from..from + LABEL], label)
 }
 
 // The first block from a place on that has a label and a height, or n.
@@ -25,14 +22,12 @@ fn next_block(store: &[u8], label: &[u8], height: u64, from: usize, n: usize) ->
     requires { (from ≤ n) × (block_bytes * n ≤ length store.now) }
     ensures { (result ≤ n) × ((j : ℕ) → from ≤ j → j < result → has_both store.now label.now height j ≡ false) }
 {
-    let mut i = from;
-    while i < n {
+    for i in from..n {
         if has_both(store, i, label, height) {
             return i;
         }
-        i += 1;
     }
-    i
+    n
 }
 
 // The only one of the first n blocks that has a label and a height, or n where none has them or more than one.

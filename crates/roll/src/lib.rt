@@ -12,7 +12,7 @@ mod write;
 
 pub use digest::digest_in;
 pub use gather::take_rows;
-pub use place::{count_in, height_in, label_in, tail_in};
+pub use place::{count_in, height_in, label_in, row_at, tail_in};
 pub use read::read_roll;
 pub use test::is_roll;
 pub use write::{put_roll, roll_bytes, write_roll};
