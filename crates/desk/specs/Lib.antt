@@ -1,2 +1,3 @@
--- The desk's rule.
+-- The desk's rule, and its question as C has it.
 pub mod Verdict
+pub mod Asked

@@ -1,54 +1,39 @@
 // Whether a statement is the one asked for, and has the nonce.
-ghost use Rattle.std.specs.Prelude.{◌≡◌, ◌&&◌, List, [], ℕ, leb};
+ghost use Rattle.std.specs.Prelude.{◌≡◌, ◌&&◌, List, ℕ, leb};
 ghost use Rattle.octets.specs.Strings.{same};
 ghost use Rattle.rack.specs.Racks.{rack_digest};
 ghost use Rattle.desk.specs.Verdict.{is_asked_for, has_other_nonce};
+ghost use Rattle.desk.specs.Asked.{asked_with};
 
+use crate::Question;
 use octets::is_same;
-use statement::{RECEIPT_SIZE, Statement, kind_number, read_statement};
-
-// The first and the last kind that may be asked for.
-const NEW: u8 = 1;
-
-const READ: u8 = 3;
+use statement::{DIGEST, NEW, READ, RECEIPT_SIZE, Statement, kind_number, read_statement};
 
 // Where the nonce of a read statement stands, up to its end: behind what every receipt has.
 const NONCE_PLACE: usize = RECEIPT_SIZE;
 
 // Whether a kind may be asked for.
-fn is_askable(asked: u8) -> bool
-    ensures { result ≡ (leb 1 asked && leb asked 3) }
+fn is_askable(kind: u8) -> bool
+    ensures { result ≡ (leb 1 kind && leb kind 3) }
 {
-    NEW <= asked && asked <= READ
+    NEW <= kind && kind <= READ
 }
 
-// Whether a statement is of an identity, a rack and a ledger.
-fn is_of(v: Statement, identity: [u8; 32], digest: [u8; 32], label: [u8; 16]) -> bool
-    ensures { result ≡ (same v.identity identity && same v.own digest && same v.label label) }
+// Whether a statement is of the identity and the ledger asked for, and of a rack with this digest.
+fn is_of(v: Statement, question: Question, digest: [u8; DIGEST]) -> bool
+    ensures { result ≡ (same v.identity question.identity && same v.own digest && same v.label question.label) }
 {
-    let its_identity = v.identity;
-    let own = v.own;
-    let its_label = v.label;
-    if !is_same(&its_identity, &identity) {
-        return false;
-    }
-    if !is_same(&own, &digest) {
-        return false;
-    }
-    is_same(&its_label, &label)
+    is_same(&v.identity, &question.identity)
+        && is_same(&v.own, &digest)
+        && is_same(&v.label, &question.label)
 }
 
 // Whether a string is a statement of the asked kind, and of the identity, a rack with this digest and the ledger; whatever the nonce.
-pub fn is_asked_for(
-    identity: [u8; 32],
-    digest: [u8; 32],
-    asked: u8,
-    label: [u8; 16],
-    s: &[u8],
-) -> bool
-    ensures { (rack : List ℕ) → digest ≡ rack_digest rack → result ≡ is_asked_for (record { identity = identity; rack = rack; asked = asked; label = label; nonce = [] }) s.now }
+#[tactic(auto, unfolding(crate::specs::Verdict::is_asked_for))]
+pub fn is_asked_for(question: Question, digest: [u8; DIGEST], s: &[u8]) -> bool
+    ensures { (rack : List ℕ) → digest ≡ rack_digest rack → result ≡ is_asked_for (asked_with question rack) s.now }
 {
-    if !is_askable(asked) {
+    if !is_askable(question.kind) {
         return false;
     }
     let reading = read_statement(s);
@@ -56,22 +41,16 @@ pub fn is_asked_for(
         return false;
     }
     let v = reading.statement;
-    let kind = v.kind;
-    if kind_number(kind) != asked {
-        return false;
-    }
-    is_of(v, identity, digest, label)
+    kind_number(v.kind) == question.kind && is_of(v, question, digest)
 }
 
 // Whether a reading was asked for and the string has not this nonce; whatever else was asked for.
-pub fn has_other_nonce(asked: u8, nonce: [u8; 16], s: &[u8]) -> bool
-    ensures { result ≡ has_other_nonce (record { identity = []; rack = []; asked = asked; label = []; nonce = nonce }) s.now }
+#[tactic(auto, unfolding(crate::specs::Verdict::has_other_nonce))]
+pub fn has_other_nonce(question: Question, s: &[u8]) -> bool
+    ensures { (rack : List ℕ) → result ≡ has_other_nonce (asked_with question rack) s.now }
 {
-    if asked != READ {
+    if question.kind != READ {
         return false;
     }
-    if s.len() < NONCE_PLACE {
-        return true;
-    }
-    !is_same(&s[NONCE_PLACE..], &nonce)
+    s.len() < NONCE_PLACE || !is_same(&s[NONCE_PLACE..], &question.nonce)
 }

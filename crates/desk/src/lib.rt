@@ -4,13 +4,45 @@
 mod asking;
 mod judging;
 
+ghost use Rattle.std.specs.Prelude.{◌≡◌};
+ghost use Rattle.refusals.specs.Refused.{refusal_number};
+ghost use Rattle.desk.specs.Verdict.{nothing_shown};
+
 pub use judging::{height_in, verdict, verdict_with};
+use refusals::Refusal;
+use statement::{DIGEST, LABEL, NUMBER};
+
+// The bytes of a nonce: two numbers.
+pub const NONCE: usize = 2 * NUMBER;
+
+// What a desk asks: of the identity that it retains, of a ledger, with a nonce, and a kind. The kind is C's byte: every value of it is judged.
+#[repr(C)]
+#[derive(Clone, Copy)]
+pub struct Question {
+    pub identity: [u8; DIGEST],
+    pub label: [u8; LABEL],
+    pub nonce: [u8; NONCE],
+    pub kind: u8,
+}
 
 // What the desk may show: 0 with the tail and the height, or a refusal and zeros.
 #[repr(C)]
 #[derive(Clone, Copy)]
 pub struct Finding {
     pub number: u32,
-    pub tail: [u8; 32],
+    pub tail: [u8; DIGEST],
     pub height: u64,
+}
+
+impl From<Refusal> for Finding {
+    ghost from_gives = { λ refusal finding. finding ≡ nothing_shown (refusal_number refusal) };
+
+    #[tactic(auto, unfolding(crate::specs::Verdict::nothing_shown))]
+    fn from(refusal: Refusal) -> Finding {
+        Finding {
+            number: refusal.number(),
+            tail: [0u8; DIGEST],
+            height: 0,
+        }
+    }
 }

@@ -8,17 +8,15 @@ use lib.Dec.{lit<}
 use Rattle.refusals.specs.{accepted, rack_broken, roll_broken, statement_not_asked}
 use Rattle.octets.specs.Layouts.{holds}
 use Rattle.octets.proofs.Exact.{Octets}
-use Rattle.rack.specs.Racks as rack
 use Rattle.rack.specs.Racks.{rack_layout}
 use Rattle.rack.proofs.RackTrips.{rack_written_reads}
 use Rattle.rack.proofs.Shapes as rack-shape
 use Rattle.rows.specs.Sizes.{most_rows}
-use Rattle.roll.specs.Roll as roll
 use Rattle.roll.specs.Roll.{roll_layout}
 use Rattle.roll.proofs.Cuts.{cut_octets, cut_long}
 use Rattle.roll.proofs.RollTrips.{written_reads_back}
 use Rattle.statement.specs.Cut.{cut_statement}
-use Rattle.statement.specs.Layout.{statement_layout, reading}
+use Rattle.statement.specs.Layout.{statement_layout}
 use Rattle.statement.proofs.Records.{fits_kind}
 use Rattle.statement.proofs.Shapes.{cut_shaped}
 use Rattle.statement.proofs.StatementTrips.{written_read as statement-back}

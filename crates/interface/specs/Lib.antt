@@ -1,4 +1,3 @@
--- What the calls for C answer: the contents as C has them, the reading and writing of them, and the desk's question.
+-- What the calls for C answer: the contents as C has them, and the reading and writing of them.
 pub mod Contents
 pub mod Calls
-pub mod Questions

@@ -1,10 +1,9 @@
 // The verdict.
 ghost use Rattle.std.specs.Prelude.{◌≡◌};
 ghost use Rattle.desk.specs.Verdict.{judging};
-ghost use Rattle.interface.specs.Questions.{asked_with};
+ghost use Rattle.desk.specs.Asked.{asked_with};
 
-use crate::Question;
-use desk::Finding;
+use desk::{Finding, Question};
 
 // Tail and height of the ledger, as a majority of the rack's keys signed them.
 #[unsafe(no_mangle)]
@@ -16,16 +15,5 @@ pub extern "C" fn mahqurith_verdict(
 ) -> Finding
     ensures { result ≡ judging (asked_with question rack.now) statement.now signers.now }
 {
-    let identity = question.identity;
-    let label = question.label;
-    let nonce = question.nonce;
-    desk::verdict(
-        identity,
-        rack,
-        question.kind,
-        label,
-        nonce,
-        statement,
-        signers,
-    )
+    desk::verdict(question, rack, statement, signers)
 }

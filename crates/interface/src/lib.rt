@@ -9,18 +9,16 @@ mod racks;
 mod rolls;
 mod statements;
 
+use desk::NONCE;
 pub use digests::{mahqurith_rack_digest, mahqurith_tail_after};
 pub use hashing::mahqurith_sha256;
 pub use judging::mahqurith_verdict;
 use rack::KEY_BYTES;
 pub use racks::{mahqurith_read_rack, mahqurith_write_rack};
 pub use rolls::{mahqurith_read_roll, mahqurith_write_roll};
-use statement::{DIGEST, LABEL, NUMBER};
+use statement::{DIGEST, LABEL};
 pub use statements::{mahqurith_read_statement, mahqurith_write_statement};
 use table::Row;
-
-// The bytes of a nonce: two numbers.
-pub const NONCE: usize = 2 * NUMBER;
 
 #[repr(C)]
 #[derive(Clone, Copy)]
@@ -87,14 +85,4 @@ pub struct StatementRead {
 pub struct Written {
     pub number: u32,
     pub written: usize,
-}
-
-// What a desk asks.
-#[repr(C)]
-#[derive(Clone, Copy)]
-pub struct Question {
-    pub identity: [u8; DIGEST],
-    pub label: [u8; LABEL],
-    pub nonce: [u8; NONCE],
-    pub kind: u8,
 }

@@ -1,10 +1,9 @@
 // The verdict.
 ghost use Rattle.std.specs.Prelude.{◌≡◌};
 ghost use Rattle.desk.specs.Verdict.{judging};
-ghost use Rattle.interface.specs.Questions.{asked_with};
+ghost use Rattle.desk.specs.Asked.{asked_with};
 
-use desk::Finding;
-use interface::Question;
+use desk::{Finding, Question};
 
 // Tail and height of the ledger, as a majority of the rack's keys signed them.
 #[unsafe(no_mangle)]

@@ -1,6 +1,6 @@
 -- What a block is that is a rack's or a receipt's. Assumes nothing.
-use mathlib.Core.Path.{◌≡◌, refl, sym, ◌∙◌}
-use mathlib.Core.Bool.{Bool, true, false, cond, ◌&&◌}
+use mathlib.Core.Path.{◌≡◌, refl, sym}
+use mathlib.Core.Bool.{Bool, true, false, cond}
 use mathlib.Core.List.{List}
 use Prim.Native.Nat.{ℕ, ◌≤◌}
 use native.Mathlib.Omega.{arith}
@@ -8,11 +8,10 @@ use borrow.Author.Tests.{eqb-true, leb-true}
 use lib.ListN.{length}
 use lib.Dec.{eqb, leb}
 use Rattle.octets.proofs.RoundTrips.{and_left, and_right}
-use Rattle.octets.specs.Layouts.{holds}
-use Rattle.rack.specs.Racks.{most, rack_layout}
+use Rattle.rack.specs.Racks.{most}
 use Rattle.statement.specs.Kinds.{reading_size}
 use Rattle.checks.specs.Check.{block_bytes, check_right}
-use Rattle.receipts.specs.Block.{rack_type, receipt_type, type_in, key_count, rack_in, rack_sound, length_in, count_in, receipt_sound, whole, sort}
+use Rattle.receipts.specs.Block.{rack_type, receipt_type, type_in, key_count, rack_sound, length_in, count_in, receipt_sound, whole, sort}
 
 module _ (b : List ℕ) where
   -- which of the tests a type tells of

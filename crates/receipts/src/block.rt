@@ -2,9 +2,10 @@
 ghost use Rattle.std.specs.Prelude.{◌≡◌, length};
 ghost use Rattle.checks.specs.Check.{block_bytes};
 ghost use Rattle.receipts.specs.Block.{rack_sound, receipt_sound, sort};
+ghost use Rattle.receipts.specs.Sorts.{sort_number};
 
 use crate::{
-    COUNT_PLACE, DAMAGED, LENGTH_PLACE, PAIRS_PLACE, RACK, RACK_PLACE, RECEIPT, STATEMENT_PLACE,
+    COUNT_PLACE, LENGTH_PLACE, PAIRS_PLACE, RACK, RACK_PLACE, RECEIPT, STATEMENT_PLACE, Sort,
 };
 use checks::{BLOCK, CHECKED, is_checked};
 use octets::is_zero;
@@ -12,63 +13,46 @@ use rack::{KEY_BYTES, MOST, is_rack};
 use statement::READING_SIZE;
 
 // Whether a block is a rack's, with zeros behind the rack.
+#[tactic(auto, unfolding(crate::specs::Block::rack_sound, crate::specs::Block::type_in, crate::specs::Block::key_count, crate::specs::Block::rack_in, crate::specs::Block::rack_rest))]
 fn is_rack_block(b: &[u8]) -> bool
     requires { length b.now ≡ block_bytes }
     ensures { result ≡ rack_sound b.now }
 {
-    if b[0] != RACK {
+    let n = usize::from(b[RACK_PLACE]);
+    if b[0] != RACK || MOST < n {
         return false;
     }
-    let n = b[RACK_PLACE] as usize;
-    if MOST < n {
-        return false;
-    }
-    let end = RACK_PLACE + (1 + KEY_BYTES * n);
-    if !is_rack(&b[RACK_PLACE..end]) {
-        return false;
-    }
-    is_zero(&b[end..CHECKED])
+    let end = RACK_PLACE + 1 + KEY_BYTES * n;
+    is_rack(&b[RACK_PLACE..end]) && is_zero(&b[end..CHECKED])
 }
 
 // Whether a block is a receipt's, with zeros in the places that it does not use.
+#[tactic(auto, unfolding(crate::specs::Block::receipt_sound, crate::specs::Block::type_in, crate::specs::Block::length_in, crate::specs::Block::count_in, crate::specs::Block::statement_rest, crate::specs::Block::signers_rest))]
 fn is_receipt_block(b: &[u8]) -> bool
     requires { length b.now ≡ block_bytes }
     ensures { result ≡ receipt_sound b.now }
 {
-    if b[0] != RECEIPT {
-        return false;
-    }
-    let n = b[LENGTH_PLACE] as usize;
-    if READING_SIZE < n {
-        return false;
-    }
-    let count = b[COUNT_PLACE] as usize;
-    if MOST < count {
-        return false;
-    }
-    let from = STATEMENT_PLACE + n;
-    if !is_zero(&b[from..COUNT_PLACE]) {
+    let n = usize::from(b[LENGTH_PLACE]);
+    let count = usize::from(b[COUNT_PLACE]);
+    if b[0] != RECEIPT || READING_SIZE < n || MOST < count {
         return false;
     }
     let behind = PAIRS_PLACE + 2 * count;
-    is_zero(&b[behind..CHECKED])
+    is_zero(&b[STATEMENT_PLACE + n..COUNT_PLACE]) && is_zero(&b[behind..CHECKED])
 }
 
-// The type of a block, or that it is damaged.
-pub fn sort_of(b: &[u8]) -> u8
-    ensures { result ≡ sort b.now }
+// What a block is.
+#[tactic(auto, unfolding(crate::specs::Block::sort, crate::specs::Block::whole))]
+pub fn sort_of(b: &[u8]) -> Sort
+    ensures { sort_number result ≡ sort b.now }
 {
-    if b.len() != BLOCK {
-        return DAMAGED;
+    if b.len() != BLOCK || !is_checked(b) {
+        Sort::Damaged
+    } else if is_rack_block(b) {
+        Sort::Rack
+    } else if is_receipt_block(b) {
+        Sort::Receipt
+    } else {
+        Sort::Damaged
     }
-    if !is_checked(b) {
-        return DAMAGED;
-    }
-    if is_rack_block(b) {
-        return RACK;
-    }
-    if is_receipt_block(b) {
-        return RECEIPT;
-    }
-    DAMAGED
 }

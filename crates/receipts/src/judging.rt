@@ -7,32 +7,36 @@ ghost use Rattle.checks.specs.Check.{block_bytes};
 ghost use Rattle.receipts.specs.Block.{length_in, count_in};
 ghost use Rattle.receipts.specs.Judged.{finding};
 
-use crate::parts::{digest_at, label_at};
 use crate::{
     ASKED_PLACE, COUNT_PLACE, IDENTITY_PLACE, LABEL_PLACE, LENGTH_PLACE, NONCE_PLACE, PAIRS_PLACE,
     STATEMENT_PLACE,
 };
 use checks::DIGEST;
-use desk::{Finding, verdict_with};
+use desk::{Finding, Question, verdict_with};
+use octets::array_at;
 
 // The desk's finding of a receipt under a rack whose digest was taken before; an empty rack is none.
+#[tactic(auto, unfolding(crate::specs::Judged::finding, crate::specs::Judged::question, crate::specs::Block::asked_in, crate::specs::Block::label_in, crate::specs::Block::nonce_in, crate::specs::Block::identity_in, crate::specs::Block::length_in, crate::specs::Block::statement_in, crate::specs::Block::count_in, crate::specs::Block::signers_in))]
 pub fn judged(rack: &[u8], digest: [u8; DIGEST], b: &[u8]) -> Finding
     requires b_len { (length b.now ≡ block_bytes) × (length_in b.now ≤ reading_size) × (count_in b.now ≤ most) }
     requires digest_value { holds rack_layout rack.now ≡ true → digest ≡ rack_digest rack.now }
     ensures { result ≡ finding rack.now b.now }
 {
-    let identity = digest_at(b, IDENTITY_PLACE);
-    let label = label_at(b, LABEL_PLACE);
-    let nonce = label_at(b, NONCE_PLACE);
-    let end = STATEMENT_PLACE + b[LENGTH_PLACE] as usize;
-    let last = PAIRS_PLACE + 2 * b[COUNT_PLACE] as usize;
-    verdict_with(
+    let identity = array_at(b, IDENTITY_PLACE);
+    let label = array_at(b, LABEL_PLACE);
+    let nonce = array_at(b, NONCE_PLACE);
+    let question = Question {
         identity,
-        rack,
-        digest,
-        b[ASKED_PLACE],
         label,
         nonce,
+        kind: b[ASKED_PLACE],
+    };
+    let end = STATEMENT_PLACE + usize::from(b[LENGTH_PLACE]);
+    let last = PAIRS_PLACE + 2 * usize::from(b[COUNT_PLACE]);
+    verdict_with(
+        question,
+        rack,
+        digest,
         &b[STATEMENT_PLACE..end],
         &b[PAIRS_PLACE..last],
     )

@@ -3,18 +3,22 @@
 
 mod block;
 mod judging;
-mod parts;
 
 pub use block::sort_of;
 use checks::{CHECKED, DIGEST};
 pub use judging::judged;
-pub use parts::{digest_at, label_at};
 use rows::LABEL;
 use statement::READING_SIZE;
 
-// What a block is, by its first byte; a damaged one is neither.
-pub const DAMAGED: u8 = 0;
+// What a block is.
+#[derive(Clone, Copy)]
+pub enum Sort {
+    Damaged,
+    Rack,
+    Receipt,
+}
 
+// The first byte of a rack's block, and of a receipt's.
 pub const RACK: u8 = 1;
 
 pub const RECEIPT: u8 = 2;

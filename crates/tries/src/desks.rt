@@ -2,14 +2,11 @@
 use crate::keepers::{enter, founded, with_ledgers};
 use crate::people::{THREE, label, rack_of_three};
 use crate::say;
-use desk::Finding;
+use desk::{Finding, NONCE, Question};
 use rows::TABLE;
 use rules::Head;
-use statement::RECEIPT_SIZE;
+use statement::{APPEND, RECEIPT_SIZE};
 use std::io::Result;
-
-// The number of the kind append.
-const APPEND: u8 = 2;
 
 // The verdict on a first append, with these signers.
 fn verdict(signers: &[u8]) -> Finding {
@@ -23,8 +20,14 @@ fn verdict(signers: &[u8]) -> Finding {
 
 fn judge(head: Head, rack: &[u8; THREE], receipt: &[u8; RECEIPT_SIZE], signers: &[u8]) -> Finding {
     let identity = head.identity;
-    let nonce = [0u8; 16];
-    desk::verdict(identity, rack, APPEND, label(1), nonce, receipt, signers)
+    let label = label(1);
+    let question = Question {
+        identity,
+        label,
+        nonce: [0u8; NONCE],
+        kind: APPEND,
+    };
+    desk::verdict(question, rack, receipt, signers)
 }
 
 // Signers by position and marks; the marks say that the key is attested and its signature valid.

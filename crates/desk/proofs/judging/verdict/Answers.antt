@@ -4,7 +4,4 @@ use Rattle.rack.proofs.RackTrips.{rack_whole}
 use Rattle.desk.proofs.judging.verdict.Goals as goal
 
 pub verdict_with-requires : goal.verdict_with-requires
-verdict_with-requires c h = c.rack_digest-digest.ensures ∙ ap rack_digest (rack_whole c.args.rack.now h)
-
-pub returns : goal.returns
-returns c = c.verdict_with.ensures
+verdict_with-requires c h = c.rack_digest.ensures ∙ ap rack_digest (rack_whole c.args.rack.now h)

@@ -1,32 +1,28 @@
-use mathlib.Core.Path.{◌≡◌, sym, ap₂, ◌∙◌}
+use mathlib.Core.Path.{◌≡◌, sym, ap}
 use mathlib.Core.Bool.{true}
-use Prim.Native.Nat.{ℕ}
-use borrow.Author.Tests.{eq-eqb, ne_eqb}
+use borrow.Author.Tests.{ne_eqb}
 use Rattle.octets.specs.Layouts.{holds}
 use Rattle.statement.specs.declared.Statement.{Statement}
 use Rattle.statement.specs.Layout.{statement_layout}
+use Rattle.refusals.proofs.Answered.{number_refuses}
 use Rattle.desk.specs.declared.Finding.{Finding}
-use Rattle.desk.specs.Verdict.{Question, height_in, nothing_shown, shown, judging}
+use Rattle.desk.specs.Verdict.{Question, height_in, shown, verdict_refusal, judging}
+use Rattle.desk.specs.Asked.{asked_with}
 use Rattle.desk.proofs.Answers.{accepted_cut}
 use Rattle.desk.proofs.Vouches.{vouched, asked}
 use Rattle.desk.proofs.judging.verdict_with.Goals as goal
 
-pub refusal_of_verdict-number-requires : goal.refusal_of_verdict-number-requires
-refusal_of_verdict-number-requires c = c.requires
-
-pub returns-then-number-ne-ACCEPTED : goal.returns-then-number-ne-ACCEPTED
-unfolding nothing_shown judging
-returns-then-number-ne-ACCEPTED c = rw (← c.refusal_of_verdict-number.ensures, ne_eqb _ _ c.if-number-ne-ACCEPTED.true)
+pub returns-in-Err : goal.returns-in-Err
+unfolding judging
+returns-in-Err c = rw (← (c.in-Err.ensures), ne_eqb _ _ (number_refuses c.in-Err.refusal)) c.from.ensures
 
 pub returns : goal.returns
 unfolding shown judging
 returns c =
-    let tested = c in
-    let n = tested.refusal_of_verdict-number in
-    let a = tested.args in
-    let q : Question = record { identity = a.identity; rack = a.rack.now; asked = a.asked; label = a.label; nonce = a.nonce } in
-    let s = a.s.now in
+    let q : Question = asked_with c.args.question c.args.rack.now in
+    let s = c.args.s.now in
     let r = c.read_statement-reading in
-    let h : holds statement_layout s ≡ true = (asked q s (vouched q s a.signers.now (sym n.ensures ∙ tested.if-number-ne-ACCEPTED.false)).answers).statement_holds in
-    let seen : ℕ → Statement → Finding = λ n v. record { number = n; tail = v.tail; height = height_in v.kind } in
-    rw (← n.ensures, eq-eqb _ _ tested.if-number-ne-ACCEPTED.false, c.height_in.ensures) (ap₂ seen tested.if-number-ne-ACCEPTED.false (accepted_cut s r.result r.ensures h))
+    let accepts : verdict_refusal q s c.args.signers.now ≡ 0 = sym (c.in_default.ensures) in
+    let h : holds statement_layout s ≡ true = (asked q s (vouched q s c.args.signers.now accepts).answers).statement_holds in
+    let seen : Statement → Finding = λ v. record { number = 0; tail = v.tail; height = height_in v.kind } in
+    rw (accepts, c.height_in.ensures) (ap seen (accepted_cut s r.result r.ensures h))
