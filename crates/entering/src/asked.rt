@@ -18,8 +18,10 @@ fn is_in_rack(key: [u8; 32], rack: &[u8]) -> bool
     ensures { result ≡ is_in_rack key rack.now }
 {
     let mut keys = [[0u8; KEY_BYTES]; MOST];
-    let counted = read_rack(rack, &mut keys);
-    is_member(keys, counted.count as usize, key)
+    match read_rack(rack, &mut keys) {
+        Ok(count) => is_member(&keys[..usize::from(count)], key),
+        Err(_) => false,
+    }
 }
 
 // The first refusal of the own rack, or 0.

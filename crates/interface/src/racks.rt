@@ -42,15 +42,21 @@ pub extern "C" fn mahqurith_read_rack(bytes: &[u8]) -> RackRead
     ensures { result ≡ reading_rack bytes.now }
 {
     let mut keys = [[0u8; KEY_BYTES]; MOST];
-    let counted = rack::read_rack(bytes, &mut keys);
-    let places = places_of(keys);
-    let rack = Rack {
-        count: counted.count,
-        keys: places,
-    };
-    RackRead {
-        number: counted.answer,
-        rack,
+    match rack::read_rack(bytes, &mut keys) {
+        Ok(count) => RackRead {
+            number: refusals::ACCEPTED,
+            rack: Rack {
+                count,
+                keys: places_of(keys),
+            },
+        },
+        Err(refusal) => RackRead {
+            number: refusal.number(),
+            rack: Rack {
+                count: 0,
+                keys: places_of(keys),
+            },
+        },
     }
 }
 
@@ -61,9 +67,14 @@ pub extern "C" fn mahqurith_write_rack(rack: Rack, area: &mut [u8]) -> Written
 {
     let places = rack.keys;
     let keys = keys_of(places);
-    let written = rack::write_rack(rack.count, keys, area);
-    Written {
-        number: written.answer,
-        written: written.count,
+    match rack::write_rack(rack.count, keys, area) {
+        Ok(written) => Written {
+            number: refusals::ACCEPTED,
+            written,
+        },
+        Err(refusal) => Written {
+            number: refusal.number(),
+            written: 0,
+        },
     }
 }

@@ -6,6 +6,8 @@ use Prim.Native.Nat.{ℕ}
 use denote.Triple.Clauses.{AtExit}
 use borrow.Fn.Kind.{ParamKind, ResultKind}
 use borrow.Fn.Kinds.{Out, Dens, res_t, ended_of}
+use Rattle.std.specs.Result.{result_unwrap_or}
+use Rattle.refusals.specs.Refused.{answer_of}
 use Rattle.octets.specs.Layouts.{Written}
 use Rattle.rack.specs.Promise.{Taken}
 use contract.Lifetimes.{Lfts}
@@ -31,10 +33,10 @@ module _ (n : ℕ) (ps : List (ParamKind n)) (res : ResultKind n) where
       (κs : Lfts n) (a : Dens κs ps) (r r' : (res_t res κs).Denot) (e e' : AtExit (ended_of n ps res) κs)
       → post κs a r e → post κs a r' e' → seen κs r e ≡ seen κs r' e'
 
-pub is_rising_one : One 0 is-rising.ps is-rising.r Bool is-rising-contract.Post (λ κs r e. r)
+pub is_rising_one : One 1 is-rising.ps is-rising.r Bool is-rising-contract.Post (λ κs r e. r)
 is_rising_one κs a r r' e e' p q = p ∙ sym q
 
-pub is_member_one : One 0 is_member.ps is_member.r Bool is-member-contract.Post (λ κs r e. r)
+pub is_member_one : One 1 is_member.ps is_member.r Bool is-member-contract.Post (λ κs r e. r)
 is_member_one κs a r r' e e' p q = p ∙ sym q
 
 pub majority_one : One 0 majority.ps majority.r ℕ majority-contract.Post (λ κs r e. r)
@@ -43,10 +45,10 @@ majority_one κs a r r' e e' p q = p ∙ sym q
 pub is_rack_one : One 1 is_rack.ps is_rack.r Bool is-rack-contract.Post (λ κs r e. r)
 is_rack_one κs a r r' e e' p q = p ∙ sym q
 
-pub read_rack_one : One 2 read-rack.ps read-rack.r Taken read-rack-contract.Post (λ κs r e. record { answer = r.answer; count = r.count; keys = e.1.0.now })
+pub read_rack_one : One 2 read-rack.ps read-rack.r Taken read-rack-contract.Post (λ κs r e. record { answer = answer_of r; count = result_unwrap_or r 0; keys = e.1.0.now })
 read_rack_one κs a r r' e e' p q = p ∙ sym q
 
-pub write_rack_one : One 1 write-rack.ps write-rack.r Written write-rack-contract.Post (λ κs r e. record { answer = r.answer; count = r.count; area = e.1.1.0.now })
+pub write_rack_one : One 1 write-rack.ps write-rack.r Written write-rack-contract.Post (λ κs r e. record { answer = answer_of r; count = result_unwrap_or r 0; area = e.1.1.0.now })
 write_rack_one κs a r r' e e' p q = p ∙ sym q
 
 pub rack_digest_one : One 1 rack_digest.ps rack_digest.r (List ℕ) rack-digest-contract.Post (λ κs r e. r)

@@ -3,7 +3,6 @@ ghost use Rattle.std.specs.Prelude.{◌≡◌, take};
 ghost use Rattle.rack.specs.Racks.{most, rack_bytes, rack_digest};
 
 use crate::keys::{KEY_BYTES, MOST};
-use crate::numbers::least;
 use octets::copy_at;
 
 // The byte that stands before a rack where it is digested.
@@ -16,11 +15,9 @@ const LONGEST: usize = 1 + KEY_BYTES * MOST;
 pub fn rack_digest(s: &[u8]) -> [u8; 32]
     ensures { result ≡ rack_digest (take (rack_bytes most) s.now) }
 {
-    let n = least(s.len(), LONGEST);
+    let n = s.len().min(LONGEST);
     let mut message = [0u8; 1 + LONGEST];
     message[0] = RACK_MARK;
     copy_at(&mut message, 1, &s[..n]);
-    let mut digest = [0u8; 32];
-    hash::sha256(&message[..1 + n], &mut digest);
-    digest
+    hash::digest(&message[..1 + n])
 }

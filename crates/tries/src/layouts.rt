@@ -70,8 +70,10 @@ pub fn racks(rt: &impl Print) -> Result<()> {
 // What reading a rack answers.
 fn answer_to(rack: &[u8]) -> u32 {
     let mut keys = [[0u8; KEY]; MOST];
-    let counted = rack::read_rack(rack, &mut keys);
-    counted.answer
+    match rack::read_rack(rack, &mut keys) {
+        Ok(_) => refusals::ACCEPTED,
+        Err(refusal) => refusal.number(),
+    }
 }
 
 fn answer_to_sixteen(rack: &[u8; SIXTEEN]) -> u32 {
@@ -81,8 +83,7 @@ fn answer_to_sixteen(rack: &[u8; SIXTEEN]) -> u32 {
 // How many bytes are written where all keys but the last are read and written again.
 fn bytes_of_fifteen(rack: [u8; SIXTEEN]) -> usize {
     let mut keys = [[0u8; KEY]; MOST];
-    let counted = rack::read_rack(&rack[..FIFTEEN], &mut keys);
+    let count = rack::read_rack(&rack[..FIFTEEN], &mut keys).unwrap_or(0);
     let mut area = [0u8; FIFTEEN];
-    let written = rack::write_rack(counted.count, keys, &mut area);
-    written.count
+    rack::write_rack(count, keys, &mut area).unwrap_or(0)
 }

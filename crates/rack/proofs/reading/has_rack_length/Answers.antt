@@ -1,28 +1,16 @@
-use mathlib.Core.Path.{◌≡◌}
-use native.Mathlib.Omega.{arith}
-use borrow.Author.Tests.{le-leb, lt-leb}
-use lib.ListN.{get_or, get_or-eq_default}
-use Rattle.rack.specs.Racks.{most}
+use borrow.Author.Rules.{rules}
 use Rattle.rack.specs.Tests.{rack_long}
+use Rattle.rack.proofs.Walks.{first_none}
 use Rattle.rack.proofs.reading.has_rack_length.Goals as goal
 
-pub returns-then-s-eq0 : goal.returns-then-s-eq0
+pub returns-in_default : goal.returns-in_default
 unfolding rack_long
-returns-then-s-eq0 c =
-    let none : get_or c.args.s.now 0 0 ≡ 0 = get_or-eq_default c.args.s.now 0 (omega arith) in
-    rw none
+returns-in_default c = rw (first_none c.args.s.now c.in_default.ensures.value)
 
-pub overflow_cast-n : goal.overflow_cast-n
-overflow_cast-n c = omega (arith, c.shared_slice_known-1.given 0)
-
-pub returns-then-n-lt1 : goal.returns-then-n-lt1
+pub returns-then-n-le-MOST : goal.returns-then-n-le-MOST
 unfolding rack_long
-returns-then-n-lt1 c = rw (lt-leb 1 _ c.if-n-lt1.true)
+returns-then-n-le-MOST c = search rules
 
-pub returns-then-n-gt-MOST : goal.returns-then-n-gt-MOST
+pub returns-else-n-le-MOST : goal.returns-else-n-le-MOST
 unfolding rack_long
-returns-then-n-gt-MOST c = rw (le-leb 1 _ c.if-n-lt1.false, lt-leb _ most c.if-n-gt-MOST.true)
-
-pub returns : goal.returns
-unfolding rack_long
-returns c = rw (le-leb 1 _ c.if-n-lt1.false, le-leb _ most c.if-n-gt-MOST.false)
+returns-else-n-le-MOST c = search rules

@@ -1,12 +1,14 @@
-use mathlib.Core.Path.{◌≡◌, sym, ap, ◌∙◌}
+use mathlib.Core.Path.{◌≡◌, sym, ap, ap₂, ◌∙◌}
 use mathlib.Core.Bool.{true}
-use mathlib.Core.List.{List}
-use Prim.Native.Nat.{ℕ}
+use mathlib.Core.List.{List, ◌++◌}
+use Prim.Native.Nat.{ℕ, ◌-◌}
 use native.Mathlib.Omega.{arith}
-use lib.ListN.{get_or}
+use lib.ListN.{length, get_or, drop, replicate}
 use Rattle.refusals.specs.{accepted}
+use Rattle.octets.specs.Strings.{pieces}
 use Rattle.octets.specs.Layouts.{holds}
-use Rattle.rack.specs.Racks.{rack_layout, rack_cut}
+use Rattle.octets.proofs.Pieces.{pieces-length}
+use Rattle.rack.specs.Racks.{most, key_bytes, rack_layout, rack_cut}
 use Rattle.rack.proofs.Racks.{cut_keys, holds_few, holds_length}
 use Rattle.rack.proofs.RackTrips.{reading_good, reading_broken}
 use Rattle.rack.proofs.reading.read_rack.Goals as goal
@@ -24,19 +26,30 @@ good c = sym c.is_rack.ensures ∙ c.if-not-is_rack.false
 pub bounds-s-0 : goal.bounds-s-0
 bounds-s-0 c = omega (arith, holds_length c.args.s.now (good (goal.at.bounds-s-0 c).Else-not-is_rack))
 
-pub overflow_cast-count : goal.overflow_cast-count
-overflow_cast-count c = omega (arith, c.shared_slice_known-2-1.given 0)
+pub keys_in-requires : goal.keys_in-requires
+keys_in-requires c = rw c.from.ensures (holds_length c.args.s.now (good (goal.at.keys_in-requires c).Else-not-is_rack))
 
-pub taken_apart-requires : goal.taken_apart-requires
-taken_apart-requires c =
+pub placed-requires : goal.placed-requires
+placed-requires c =
     let s = c.args.s.now in
-    omega (arith, holds_few s (good (goal.at.taken_apart-requires c).Else-not-is_rack), holds_length s (good (goal.at.taken_apart-requires c).Else-not-is_rack))
+    omega (
+      arith,
+      ap length c.keys_in.ensures,
+      pieces-length key_bytes c.from.result (drop 1 s),
+      c.from.ensures,
+      holds_few s (good (goal.at.placed-requires c).Else-not-is_rack),
+    )
 
 pub returns : goal.returns
 unfolding rack_cut
 returns c =
     let s = c.args.s.now in
     let h = good (goal.at.returns c).Else-not-is_rack in
-    let keys = c.taken_apart.ensures ∙ sym (cut_keys s (get_or s 0 0) (holds_few s h) (holds_length s h)) in
-    ap (λ (k : List (List ℕ)). record { answer = accepted; count = get_or s 0 0; keys = k }) keys
+    let n = get_or s 0 0 in
+    let first : c.keys_in.result.now ≡ pieces key_bytes n (drop 1 s) = c.keys_in.ensures ∙ ap (λ (k : ℕ). pieces key_bytes k (drop 1 s)) c.from.ensures in
+    let long : length c.keys_in.result.now ≡ n = ap length first ∙ pieces-length key_bytes n (drop 1 s) in
+    let keys = c.placed.ensures
+    ∙ ap₂ (λ (k : List (List ℕ)) (m : ℕ). k ++ replicate (most - m) (replicate key_bytes 0)) first long
+    ∙ sym (cut_keys s n (holds_few s h) (holds_length s h)) in
+    ap (λ (k : List (List ℕ)). record { answer = accepted; count = n; keys = k }) keys
     ∙ sym (reading_good s h c.args.keys.now)

@@ -1,20 +1,26 @@
-use mathlib.Core.Path.{sym, ◌∙◌}
-use borrow.Author.Tests.{le-leb, lt-leb}
-use Rattle.rack.specs.Racks.{most, rack_fits}
+use borrow.Author.Rules.{rules}
+use native.Mathlib.Omega.{arith}
+use mathlib.Core.Path.{◌≡◌, ap, ◌∙◌}
+use mathlib.Core.List.{flatten}
+use Prim.Native.Nat.{◌-◌}
+use lib.ListN.{take, drop, length-drop}
+use lib.Seq.{take_all}
+use Rattle.octets.specs.Strings.{all_zero}
+use Rattle.rack.proofs.Shapes.{shaped}
+use Rattle.rack.specs.Racks.{rack_fits}
+use Rattle.rack.proofs.Walks.{flat_is}
 use Rattle.rack.proofs.writing.is_fitting.Goals as goal
 
-pub returns-then-count-lt1 : goal.returns-then-count-lt1
+pub returns-then-is_rising : goal.returns-then-is_rising
 unfolding rack_fits
-returns-then-count-lt1 c = rw (lt-leb 1 _ c.if-count-lt1.true)
+returns-then-is_rising c =
+    let k = drop c.args.count c.args.keys in
+    let whole : take (15 - c.args.count) k ≡ k =
+    take_all (15 - c.args.count) k (omega (arith, length-drop c.args.count c.args.keys, (shaped 0 c.args.keys _ c.well_formed.0).places)) in
+    let z : c.is_zero.result ≡ all_zero (flatten k) =
+    c.is_zero.ensures ∙ ap all_zero (c.as_flattened.ensures.value ∙ flat_is _ ∙ ap flatten whole) in
+    search rules
 
-pub returns-then-count-gt-MOST : goal.returns-then-count-gt-MOST
+pub returns-else-is_rising : goal.returns-else-is_rising
 unfolding rack_fits
-returns-then-count-gt-MOST c = rw (le-leb 1 _ c.if-count-lt1.false, lt-leb _ most c.if-count-gt-MOST.true)
-
-pub returns-then-not-is_rising : goal.returns-then-not-is_rising
-unfolding rack_fits
-returns-then-not-is_rising c = rw (le-leb 1 _ c.if-count-lt1.false, le-leb _ most c.if-count-gt-MOST.false, sym c.is_rising.ensures ∙ c.if-not-is_rising.true)
-
-pub returns : goal.returns
-unfolding rack_fits
-returns c = rw (le-leb 1 _ c.if-count-lt1.false, le-leb _ most c.if-count-gt-MOST.false, sym c.is_rising.ensures ∙ c.if-not-is_rising.false) c.is_unused_after.ensures
+returns-else-is_rising c = search rules
