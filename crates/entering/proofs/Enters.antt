@@ -1,13 +1,14 @@
 -- Laws of Initialise: what its racks give once they hold, its statement, and what it may count on where nothing refuses it. Assumes nothing.
 use mathlib.Core.Path.{◌≡◌, refl, sym, ap, ◌∙◌}
-use mathlib.Core.Bool.{Bool, true, false, not, cond, ◌&&◌}
+use mathlib.Core.Bool.{true, false, not, cond, ◌&&◌}
 use mathlib.Core.List.{List, ◌++◌}
 use Prim.Native.Nat.{ℕ, ◌≤◌}
 use borrow.Author.Tests.{eqb-false, not-false}
 use lib.ListN.{length, take}
-use Rattle.refusals.specs.{accepted, not_blank, rack_broken, rack_of_two, key_not_in_rack, roll_or_rack_alone, roll_broken}
+use lib.Dec.{eqb}
+use Rattle.refusals.specs.{accepted, not_blank, out_of_order, rack_broken, rack_of_two, key_not_in_rack, roll_or_rack_alone, roll_broken}
 use Rattle.refusals.specs.Order.{first}
-use Rattle.refusals.proofs.Orders.{numbered, stops, goes_on, passes}
+use Rattle.refusals.proofs.Orders.{numbered, stops, goes_on, passes, lacks, lacking}
 use Rattle.octets.specs.Strings.{all_zero}
 use Rattle.octets.specs.Layouts.{holds}
 use Rattle.rack.specs.Racks.{most, rack_bytes, rack_layout, rack_digest, is_of_two}
@@ -28,13 +29,9 @@ use Rattle.entering.specs.Parts.{own_tests, old_tests, spoken, Takeable}
 pub digested : (s : List ℕ) → holds rack_layout s ≡ true → rack_digest (take (rack_bytes most) s) ≡ rack_digest s
 digested s h = ap rack_digest (rack_whole s h)
 
--- a roll and a previous rack of which neither is alone
-module _ (roll previous : List ℕ) (e : cond (absent roll) (not (absent previous)) (absent previous) ≡ false) where
-  pub neither : absent roll ≡ true → absent previous ≡ true
-  neither none = not-false (absent previous) (rw none at e)
-
-  pub both : absent roll ≡ false → absent previous ≡ false
-  both some = rw some at e
+-- of a roll and a previous rack of which neither is alone, the one is there where the other is
+both : (roll previous : List ℕ) → cond (absent roll) (not (absent previous)) (absent previous) ≡ false → absent roll ≡ false → absent previous ≡ false
+both roll previous e some = rw some at e
 
 -- the statement of any head fits
 pub spoken_fits : (h : Head) (table : List ℕ) → statement_fits (spoken h table) ≡ true
@@ -61,6 +58,12 @@ module _ (k : Lent) (roll previous own : List ℕ) (n : ℕ) (e : n ≡ first (r
       pub own_passes : m ≡ accepted → initialise_refusal k roll previous own ≡ first (old_tests roll previous)
       unfolding numbered
       own_passes well = is_ready ∙ goes_on (own_tests k.head.key own) (old_tests roll previous) m refl f well
+
+-- no test is of the order of entries
+pub in_order : (k : Lent) (roll previous own : List ℕ) → eqb (initialise_refusal k roll previous own) out_of_order ≡ false
+unfolding initialise_refusal readiness lending lacks
+in_order k roll previous own =
+    lacking out_of_order (readiness handover_size blank not_blank k ++ own_tests k.head.key own ++ old_tests roll previous) refl
 
 -- what a keeper has been lent that nothing refuses
 pub record Enterable (k : Lent) (roll previous own : List ℕ) : Type 0 where

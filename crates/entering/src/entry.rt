@@ -1,24 +1,29 @@
 // Initialise: founding, and taking over.
-ghost use Rattle.std.specs.Prelude.{◌≡◌, ◌≤◌, length};
+ghost use Rattle.std.specs.Prelude.{◌≡◌, ◌≤◌, length, Ok};
 ghost use Rattle.statement.specs.Kinds.{handover_size};
-ghost use Rattle.rules.specs.Outcomes.{outcome};
+ghost use Rattle.rules.specs.Outcomes.{outcome, told};
 ghost use Rattle.rules.specs.Initialise.{entered, initialising};
 ghost use Rattle.entering.specs.Parts.{Takeable, taking_over};
 
-use crate::asked::refusal_of_initialise;
+use crate::asked::check_initialise;
 use crate::heads::{founded, preparing, spoken};
-use record::{acceptance, give, refusal};
+use record::give;
+use refusals::Refusal;
 use roll::take_rows;
-use rules::{Head, Told};
+use rules::{Done, Head};
 use statement::HANDOVER_SIZE;
 
 // The keeper with this head, and its statement.
-fn enter(head: Head, table: &[u8], area: &mut [u8]) -> Told
+fn enter(head: Head, table: &[u8], area: &mut [u8]) -> Done
     requires { handover_size ≤ length area.old }
-    ensures { outcome result table.now area.new ≡ entered (record { head = head; table = table.now; area = area.old }) head table.now }
+    ensures { outcome (told head (Ok result)) table.now area.new ≡ entered (record { head = head; table = table.now; area = area.old }) head table.now }
 {
     give(spoken(head, table), area);
-    acceptance(HANDOVER_SIZE, head)
+    Done {
+        written: HANDOVER_SIZE,
+        repeat: false,
+        head,
+    }
 }
 
 // The keeper takes the roll and the identity, unproved.
@@ -30,9 +35,9 @@ fn take_over(
     previous: &[u8],
     own: &[u8],
     area: &mut [u8],
-) -> Told
+) -> Done
     requires { Takeable (record { head = head; table = table.old; area = area.old }) roll.now previous.now own.now }
-    ensures { outcome result table.new area.new
+    ensures { outcome (told head (Ok result)) table.new area.new
         ≡ taking_over (record { head = head; table = table.old; area = area.old }) identity roll.now previous.now own.now }
 {
     let count = take_rows(roll, table);
@@ -49,16 +54,13 @@ pub fn initialise(
     previous: &[u8],
     own: &[u8],
     area: &mut [u8],
-) -> Told
-    ensures { outcome result table.new area.new
+) -> Result<Done, Refusal>
+    ensures { outcome (told head result) table.new area.new
         ≡ initialising (record { head = head; table = table.old; area = area.old }) identity roll.now previous.now own.now }
 {
-    let n = refusal_of_initialise(head, table, roll, previous, own, area);
-    if n != refusals::ACCEPTED {
-        return refusal(n, 0, head);
+    check_initialise(head, table, roll, previous, own, area)?;
+    if roll.is_empty() {
+        return Ok(enter(founded(head, own), table, area));
     }
-    if roll.len() == 0 {
-        return enter(founded(head, own), table, area);
-    }
-    take_over(head, table, identity, roll, previous, own, area)
+    Ok(take_over(head, table, identity, roll, previous, own, area))
 }

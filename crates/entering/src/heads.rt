@@ -15,11 +15,14 @@ use statement::{Kind, Statement, handover_statement};
 pub fn spoken(head: Head, table: &[u8]) -> Statement
     ensures { result ≡ spoken head table.now }
 {
-    let identity = head.identity;
-    let own = head.own;
-    let previous = head.previous;
-    let roll = roll_digest(head.count as usize, table);
-    handover_statement(Kind::Initialise, identity, own, previous, roll)
+    let roll = roll_digest(usize::from(head.count), table);
+    handover_statement(
+        Kind::Initialise,
+        head.identity,
+        head.own,
+        head.previous,
+        roll,
+    )
 }
 
 // The head of a keeper whose rack is founded.
@@ -27,17 +30,14 @@ pub fn founded(head: Head, own: &[u8]) -> Head
     requires { holds rack_layout own.now ≡ true }
     ensures { result ≡ founded head own.now }
 {
-    let key = head.key;
     let digest = rack_digest(own);
-    let none = [0u8; 32];
     Head {
         status: ACTIVE,
-        count: head.count,
-        key,
         identity: digest,
         own: digest,
-        previous: none,
-        next: none,
+        previous: [0; 32],
+        next: [0; 32],
+        ..head
     }
 }
 
@@ -46,16 +46,13 @@ pub fn preparing(head: Head, identity: [u8; 32], count: u8, previous: &[u8], own
     requires { (holds rack_layout previous.now ≡ true) × (holds rack_layout own.now ≡ true) }
     ensures { result ≡ preparing head identity count previous.now own.now }
 {
-    let key = head.key;
-    let before = rack_digest(previous);
-    let digest = rack_digest(own);
     Head {
         status: PREPARED,
         count,
-        key,
         identity,
-        own: digest,
-        previous: before,
-        next: [0u8; 32],
+        own: rack_digest(own),
+        previous: rack_digest(previous),
+        next: [0; 32],
+        ..head
     }
 }

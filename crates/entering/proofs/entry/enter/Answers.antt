@@ -26,4 +26,4 @@ returns c =
     let fits : statement_fits v ≡ true = ap statement_fits said.spoken.ensures ∙ spoken_fits a.head a.table.now in
     let kind : size v.kind ≡ handover_size = ap (λ (w : Statement). size w.kind) said.spoken.ensures in
     let long : length (statement_written v) ≡ handover_size = written_length v (arrays v _ said.spoken.type_inv) (fits_kind v fits) ∙ kind in
-    rw (← said.spoken.ensures, long, c.acceptance.ensures, c.give.ensures)
+    rw (← said.spoken.ensures, long, c.give.ensures)
