@@ -26,9 +26,15 @@ loop-pair-preserved c =
     let l : length c.in-Some.pair.now ≡ 2 = st.1.1 ∙ k.0 in
     let left = pairs_left s i _ c.in-Some.pair.now _ k.2 st.1.0 l in
     let n = length_push c.loop-pair.yielded c.in-Some.pair in
-    let e : first (mark_tests (refusal_number c.args.invalid) (pair_marks s i)) ≡ accepted =
-    ap (λ (m : ℕ). first (mark_tests (refusal_number c.args.invalid) m)) (sym (pair_second s i _ c.in-Some.pair.now _ k.2 st.1.0 l)) ∙ sym c.in_ok-check_marks.ensures in
-    rw n (st.0 ∙ k.0, pairs_within s i _ c.in-Some.pair.now _ k.2 st.1.0 l, left, unrefused_more (refusal_number c.args.invalid) (number_some c.args.invalid) (pair_marks s) i k.3 e)
+    let r = refusal_number c.args.invalid in
+    let e : first (mark_tests r (pair_marks s i)) ≡ accepted =
+    ap (λ (m : ℕ). first (mark_tests r m)) (sym (pair_second s i _ c.in-Some.pair.now _ k.2 st.1.0 l)) ∙ sym c.in_ok-check_marks.ensures in
+    rw n (
+      st.0 ∙ k.0,
+      pairs_within s i _ c.in-Some.pair.now _ k.2 st.1.0 l,
+      left,
+      unrefused_more r (number_some c.args.invalid) (pair_marks s) i k.3 e,
+    )
 
 pub returns-in_err-check_marks : goal.returns-in_err-check_marks
 returns-in_err-check_marks c =

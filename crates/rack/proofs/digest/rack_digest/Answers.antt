@@ -14,5 +14,6 @@ returns c =
     let s = c.args.s.now in
     let n = c.min-n in
     let copied : length (take n.result s) ≡ n.result = simp length-take (omega arith) in
-    let sent = ap (take (1 + n.result)) c.copy_at.ensures ∙ take_behind (replicate (1 + rack_bytes most) 0) rack_mark (take n.result s) n.result copied (omega arith) in
+    let sent = ap (take (1 + n.result)) c.copy_at.ensures
+    ∙ take_behind (replicate (1 + rack_bytes most) 0) rack_mark (take n.result s) n.result copied (omega arith) in
     c.digest.ensures ∙ ap sha256 (sent ∙ ap (λ (t : List ℕ). rack_mark ∷ t) (take_least n.result (rack_bytes most) s n.ensures))

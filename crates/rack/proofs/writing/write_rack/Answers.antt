@@ -44,7 +44,8 @@ module _ (c : Else-not-is_fitting) where
 pub returns-then-area-bytes : goal.returns-then-area-bytes
 returns-then-area-bytes c =
     let then = (goal.at.returns-then-area-bytes c).Else-not-is_fitting in
-    sym (writing_short rack_layout rack_broken (contents c.args.count c.args.keys) c.args.area.now (fitting then) (omega (arith, needed then, c.from-n.ensures)))
+    let r = contents c.args.count c.args.keys in
+    sym (writing_short rack_layout rack_broken r c.args.area.now (fitting then) (omega (arith, needed then, c.from-n.ensures)))
 
 pub slice_bounds-keys-end : goal.slice_bounds-keys-end
 slice_bounds-keys-end c =
