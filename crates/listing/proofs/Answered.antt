@@ -2,15 +2,14 @@
 use mathlib.Core.Path.{◌≡◌, refl, sym, ap, ap₂, ◌∙◌}
 use mathlib.Core.Bool.{Bool, true, false, ◌&&◌}
 use mathlib.Core.List.{List}
-use Prim.Native.Nat.{ℕ, suc, ◌+◌, ◌-◌, ◌*◌, ◌/◌, ◌<◌, ◌≤◌}
-use native.Mathlib.Decide.{dec_lt}
+use Prim.Native.Nat.{ℕ, suc, ◌+◌, ◌-◌, ◌*◌, ◌<◌, ◌≤◌}
 use native.Mathlib.Numerals.{add-one}
 use native.Mathlib.Omega.{arith}
-use lib.ListN.{length, take, drop, replicate, length-replicate, length-drop, length-take}
+use lib.ListN.{length, take, drop, length-replicate, length-drop}
 use lib.Seq.{length-take-le}
 use lib.Dec.{eqb}
 use Rattle.refusals.specs.{accepted}
-use Rattle.octets.specs.Strings.{put, same}
+use Rattle.octets.specs.Strings.{same}
 use Rattle.octets.proofs.Puts.{put_all}
 use Rattle.octets.proofs.RoundTrips.{and_left, and_right}
 use Rattle.rows.specs.Digests.{appended}
@@ -26,7 +25,6 @@ use Rattle.store.proofs.Tests.{read_damaged, read_none, read_done}
 use Rattle.statement.specs.Kinds.{digest_bytes}
 use Rattle.rules.specs.Derivation.{grown}
 use Rattle.rules.proofs.RowsParts.{part_cut, part_part}
-use Rattle.derivation.proofs.Growths.{grown_more}
 use Rattle.maker.specs.declared.Highest.{Highest}
 use Rattle.maker.specs.Lists.{room, answered, entry_digest, listed}
 use Rattle.maker.proofs.Orders.{never}
@@ -99,6 +97,12 @@ pub digest_part :
     → take digest_bytes (drop from store) ≡ digest_in (block_at store i)
 unfolding digest_in
 digest_part store i from p = part_there store i 24 digest_bytes from (omega arith) p
+
+-- one digest more
+grown_more :
+    (tail s : List ℕ) (i : ℕ) → grown tail s (i + 1) ≡ appended (grown tail s i) (take digest_bytes (drop (digest_bytes * i) s))
+unfolding grown
+grown_more tail s i = rw (add-one i)
 
 -- a tail grows by what is listed more
 module _ (store label tail : List ℕ) (height : ℕ) where

@@ -29,12 +29,12 @@ pub digest_at-requires-2 : goal.digest_at-requires-2
 unfolding blocks
 digest_at-requires-2 c =
     let s = (goal.at.digest_at-requires-2 c).Start in
-    omega (arith, c.first_answer-i.ensures, place_lies s.args.store.now s.args.label s.args.height s.requires.0 (there s))
+    omega (arith, c.first_answer.ensures, place_lies s.args.store.now s.args.label s.args.height s.requires.0 (there s))
 
 pub returns : goal.returns
 unfolding blocks
 returns c =
     let s = (goal.at.returns c).Start in
     let a = s.args in
-    c.digest_at-2.ensures ∙ ap (λ (i : ℕ). digest_in (block_at a.store.now i)) c.first_answer-i.ensures
+    c.digest_at-2.ensures ∙ ap (λ (i : ℕ). digest_in (block_at a.store.now i)) c.first_answer.ensures
     ∙ sym (digest_there a.store.now a.label a.height s.requires.0 (there s))

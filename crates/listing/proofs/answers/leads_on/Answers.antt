@@ -1,5 +1,4 @@
 use mathlib.Core.Path.{◌≡◌, refl, sym, ap, ap₂, ◌∙◌}
-use mathlib.Core.Bool.{true}
 use mathlib.Core.List.{List}
 use Prim.Native.Nat.{ℕ, suc, ◌+◌, ◌-◌}
 use native.Mathlib.Numerals.{add-one}
@@ -16,18 +15,18 @@ use Rattle.maker.specs.Lists.{answered, listed, entry_digest}
 use Rattle.listing.proofs.Answered.{unanswered, is_answered, place_lies, digest_there, grown-listed, leads_fails, leads_all}
 use Rattle.listing.proofs.answers.leads_on.Goals as goal
 
-pub overflow_sub-n : goal.overflow_sub-n
-overflow_sub-n c = omega (arith, c.requires.1)
+pub overflow_sub-d-end : goal.overflow_sub-d-end
+overflow_sub-d-end c = omega (arith, c.requires.1)
 
 pub loop-d-init : goal.loop-d-init
 unfolding each grown
-loop-d-init c = (omega arith, refl, refl)
+loop-d-init c = (refl, refl)
 
 pub overflow_add-d : goal.overflow_add-d
 overflow_add-d c = omega (arith, c.requires.1)
 
-pub overflow_add-height : goal.overflow_add-height
-overflow_add-height c = omega (arith, c.requires.1)
+pub overflow_add-row : goal.overflow_add-row
+overflow_add-row c = omega (arith, c.requires.1)
 
 pub returns-then-i-blocks : goal.returns-then-i-blocks
 unfolding blocks
@@ -62,11 +61,10 @@ loop-d-preserved c =
     let digest : c.digest_at.result ≡ entry_digest s a.label (h + (l.d + 1)) =
     c.digest_at.ensures ∙ ap (λ (i : ℕ). digest_in (block_at s i)) c.first_answer-i.ensures
     ∙ sym (digest_there s a.label (h + (l.d + 1)) c.requires.0 there) in (
-      omega arith,
-      each_next (λ (k : ℕ). answered s a.label (h + suc k)) l.d l.invariant.1
+      each_next (λ (k : ℕ). answered s a.label (h + suc k)) l.d l.invariant.0
           (ap (λ (k : ℕ). answered s a.label (h + k)) (sym (add-one l.d))
           ∙ is_answered s a.label (h + (l.d + 1)) c.requires.0 there),
-      c.appended-next.ensures ∙ ap₂ appended l.invariant.2 digest ∙ sym (grown-listed s a.label a.row.tail h l.d),
+      c.appended-tail.ensures ∙ ap₂ appended l.invariant.1 digest ∙ sym (grown-listed s a.label a.row.tail h l.d),
     )
 
 pub returns : goal.returns
@@ -76,6 +74,6 @@ returns c =
     let s = a.store.now in
     let n : ℕ = a.top.height - a.row.height in
     let e : l.d ≡ n = omega arith in
-    c.is_tail.ensures
-    ∙ ap (λ (t : List ℕ). same t a.top.tail) (l.invariant.2 ∙ ap (λ (d : ℕ). grown a.row.tail (listed s a.label a.row.height d) d) e)
-    ∙ sym (leads_all s a.label a.row a.top (rw e at l.invariant.1))
+    c.is_same.ensures
+    ∙ ap (λ (t : List ℕ). same t a.top.tail) (l.invariant.1 ∙ ap (λ (d : ℕ). grown a.row.tail (listed s a.label a.row.height d) d) e)
+    ∙ sym (leads_all s a.label a.row a.top (rw e at l.invariant.0))

@@ -1,14 +1,15 @@
-use mathlib.Core.Path.{sym, ap, ◌∙◌}
+use mathlib.Core.Path.{◌≡◌, refl, ap, ◌∙◌}
 use mathlib.Core.Bool.{not}
-use Rattle.std.specs.Prelude.{Result}
+use Prim.Native.Nat.{ℕ}
+use Rattle.std.specs.Prelude.{Result, Ok, Err, is_ok}
 use Rattle.rules.specs.Rows.{is_absent}
 use Rattle.listing.specs.Leading.{has_label}
 use Rattle.listing.proofs.early.has_label.Goals as goal
 
-pub returns-in_default : goal.returns-in_default
-unfolding has_label
-returns-in_default c = ap (λ (f : Result ℕ ℕ). not (is_absent f)) (sym c.in_default.is ∙ c.find_in.ensures)
+found_is : (f : Result ℕ ℕ) → is_ok f ≡ not (is_absent f)
+found_is (Ok i) = refl
+found_is (Err n) = refl
 
 pub returns : goal.returns
 unfolding has_label
-returns c = ap (λ (f : Result ℕ ℕ). not (is_absent f)) (sym c.in-Ok.is ∙ c.find_in.ensures)
+returns c = c.is_ok.ensures.value ∙ ap is_ok c.find_in.ensures ∙ found_is _

@@ -1,5 +1,4 @@
 use mathlib.Core.Path.{◌≡◌, refl, sym, ◌∙◌}
-use mathlib.Core.Bool.{true}
 use Prim.Native.Nat.{◌<◌}
 use native.Mathlib.Omega.{arith}
 use Rattle.rows.specs.Table.{each}
@@ -11,19 +10,19 @@ use Rattle.gathering.proofs.Walks.{some_byte, entry_lies, head_lies, roll_cut}
 use Rattle.listing.proofs.leading.all_led.Goals as goal
 use Rattle.listing.proofs.leading.all_led.Goals.{In-loop-i}
 
-pub old_count-count-requires : goal.old_count-count-requires
-old_count-count-requires c = some_byte c.requires.0
+pub old_count-i-end-requires : goal.old_count-i-end-requires
+old_count-i-end-requires c = some_byte c.requires.0
 
 pub loop-i-init : goal.loop-i-init
 unfolding old_at each
-loop-i-init c = (omega arith, refl, refl)
+loop-i-init c = (refl, refl)
 
 below : (c : In-loop-i) → c.loop-i.i < old_count c.args.e.now
-below c = omega (arith, c.old_count-count.ensures)
+below c = omega (arith, c.old_count-i-end.ensures)
 
 pub roll_at-requires : goal.roll_at-requires
 roll_at-requires c = (
-  entry_lies c.requires.0 c.loop-i.i c.loop-i.at c.loop-i.invariant.1 (below c),
+  entry_lies c.requires.0 c.loop-i.i c.loop-i.at c.loop-i.invariant.0 (below c),
   c.requires.0.short,
 )
 
@@ -33,8 +32,8 @@ roll_led-requires c =
       c.requires.0,
       c.requires.1,
       below (goal.at.roll_led-requires c).In-loop-i,
-      l.invariant.2,
-      c.roll_at.ensures ∙ roll_cut c.args.e.now l.i l.at l.invariant.1,
+      l.invariant.1,
+      c.roll_at.ensures ∙ roll_cut c.args.e.now l.i l.at l.invariant.0,
     )
 
 pub returns-then-not-roll_led : goal.returns-then-not-roll_led
@@ -47,7 +46,7 @@ returns-then-not-roll_led c =
 pub next_old-at-requires : goal.next_old-at-requires
 next_old-at-requires c = (
   head_lies c.requires.0 c.loop-i.i
-      c.loop-i.at c.loop-i.invariant.1 (below (goal.at.next_old-at-requires c).In-loop-i),
+      c.loop-i.at c.loop-i.invariant.0 (below (goal.at.next_old-at-requires c).In-loop-i),
   c.requires.0.short,
 )
 
@@ -55,14 +54,13 @@ pub loop-i-preserved : goal.loop-i-preserved
 loop-i-preserved c =
     let a = c.args in
     let l = c.loop-i in (
-      omega arith,
-      old_step a.e.now l.i l.at l.invariant.1 c.next_old-at.ensures,
-      each_next (roll_led a.e.now a.store.now) l.i l.invariant.2 (sym c.roll_led.ensures ∙ c.if-not-roll_led.false),
+      old_step a.e.now l.i l.at l.invariant.0 c.next_old-at.ensures,
+      each_next (roll_led a.e.now a.store.now) l.i l.invariant.1 (sym c.roll_led.ensures ∙ c.if-not-roll_led.false),
     )
 
 pub returns : goal.returns
 unfolding all_led
 returns c =
     let l = c.loop-i in
-    let e : l.i ≡ old_count c.args.e.now = omega (arith, c.old_count-count.ensures) in
-    sym (rw e at l.invariant.2)
+    let e : l.i ≡ old_count c.args.e.now = omega (arith, c.old_count-i-end.ensures) in
+    sym (rw e at l.invariant.1)

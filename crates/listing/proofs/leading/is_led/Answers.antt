@@ -9,7 +9,7 @@ pub returns-then-is_early : goal.returns-then-is_early
 returns-then-is_early c =
     let a = c.args in
     let p = c.requires in
-    sym (early_led a.e.now a.store.now p.0.rolls a.label a.n p.2 p.3 (sym c.is_early.ensures ∙ c.if-is_early.true))
+    c.if-is_early.true ∙ sym (early_led a.e.now a.store.now p.0.rolls a.label a.n p.2 p.3 (sym c.is_early.ensures ∙ c.if-is_early.true))
 
 pub highest-requires : goal.highest-requires
 highest-requires c = c.requires.0
@@ -17,5 +17,5 @@ highest-requires c = c.requires.0
 pub led_to-requires : goal.led_to-requires
 led_to-requires c = (c.requires.0, c.requires.1, c.highest.ensures)
 
-pub returns : goal.returns
-returns c = c.led_to.ensures
+pub returns-else-is_early : goal.returns-else-is_early
+returns-else-is_early c = c.led_to.ensures

@@ -1,5 +1,4 @@
 use mathlib.Core.Path.{◌≡◌, refl, sym, ap, ◌∙◌}
-use mathlib.Core.Bool.{true}
 use Prim.Native.Nat.{ℕ}
 use native.Mathlib.Omega.{arith}
 use Rattle.rows.specs.Row.{label_of}
@@ -17,19 +16,19 @@ use Rattle.listing.proofs.leading.roll_led.Goals.{Start}
 spread : (c : Start) → Spread c.args.roll.now
 spread c = rw c.requires.4 (roll_spreads c.requires.0 c.args.n c.requires.2)
 
-pub count_in-count-requires : goal.count_in-count-requires
-count_in-count-requires c = spread (goal.at.count_in-count-requires c).Start
+pub count_in-q-end-requires : goal.count_in-q-end-requires
+count_in-q-end-requires c = spread (goal.at.count_in-q-end-requires c).Start
 
 pub loop-q-init : goal.loop-q-init
 unfolding each
-loop-q-init c = (omega arith, refl)
+loop-q-init c = refl
 
 pub label_in-requires : goal.label_in-requires
 unfolding roll_layout
 label_in-requires c = (
   spread (goal.at.label_in-requires c).Start,
   has_place c.args.roll.now (spread (goal.at.label_in-requires c).Start)
-      c.loop-q.q (omega (arith, c.count_in-count.ensures)),
+      c.loop-q.q (omega (arith, c.count_in-q-end.ensures)),
 )
 
 pub is_led-requires : goal.is_led-requires
@@ -46,23 +45,21 @@ returns-then-not-is_led c =
     (rw c.requires.4 at
     (each_fails (λ (q : ℕ). led a.e.now a.store.now (label_of (roll_layout.cut a.roll.now).rows q)) (roll_layout.cut a.roll.now).count
     l.q
-    (omega (arith, c.count_in-count.ensures)) (sym test ∙ c.if-not-is_led.true)))
+    (omega (arith, c.count_in-q-end.ensures)) (sym test ∙ c.if-not-is_led.true)))
 
 pub loop-q-preserved : goal.loop-q-preserved
 loop-q-preserved c =
     let a = c.args in
     let l = c.loop-q in
     let test : c.is_led.result ≡ led a.e.now a.store.now (label_of (roll_layout.cut a.roll.now).rows l.q) =
-    c.is_led.ensures ∙ ap (led a.e.now a.store.now) c.label_in.ensures in (
-      omega arith,
-      each_next (λ (q : ℕ). led a.e.now a.store.now (label_of (roll_layout.cut a.roll.now).rows q)) l.q l.invariant.1
-          (sym test ∙ c.if-not-is_led.false),
-    )
+    c.is_led.ensures ∙ ap (led a.e.now a.store.now) c.label_in.ensures in
+    each_next (λ (q : ℕ). led a.e.now a.store.now (label_of (roll_layout.cut a.roll.now).rows q)) l.q l.invariant
+    (sym test ∙ c.if-not-is_led.false)
 
 pub returns : goal.returns
 unfolding roll_led
 returns c =
     let a = c.args in
     let l = c.loop-q in
-    let e : l.q ≡ (roll_layout.cut a.roll.now).count = omega (arith, c.count_in-count.ensures) in
-    sym (rw c.requires.4 at (rw e at l.invariant.1))
+    let e : l.q ≡ (roll_layout.cut a.roll.now).count = omega (arith, c.count_in-q-end.ensures) in
+    sym (rw c.requires.4 at (rw e at l.invariant))

@@ -1,6 +1,6 @@
 use mathlib.Core.Path.{◌≡◌}
 use mathlib.Core.Bool.{true}
-use Prim.Native.Nat.{ℕ, ◌≤◌, ◌-◌}
+use Prim.Native.Nat.{ℕ}
 use Rattle.rows.specs.Row.{label_of}
 use Rattle.rows.specs.Table.{each}
 use Rattle.roll.specs.Roll.{roll_layout}
@@ -8,7 +8,4 @@ use Rattle.maker.specs.Lists.{led}
 use Rattle.listing.proofs.leading.roll_led.Given as goal
 
 abbrev pub invariant-loop-q : goal.invariant-loop-q
-invariant-loop-q l = (l.q ≤ l.count) × (each (λ (j : ℕ). led l.e l.store (label_of (roll_layout.cut l.roll).rows j)) l.q ≡ true)
-
-abbrev pub decreases-loop-q : goal.decreases-loop-q
-decreases-loop-q l = l.count - l.q
+invariant-loop-q l = each (λ (j : ℕ). led l.e l.store (label_of (roll_layout.cut l.roll).rows j)) l.q ≡ true

@@ -1,5 +1,5 @@
 use mathlib.Core.Path.{◌≡◌, refl, sym, ap, ◌∙◌}
-use mathlib.Core.Bool.{true, false}
+use mathlib.Core.Bool.{Bool, true, false, ◌&&◌}
 use mathlib.Core.List.{List}
 use Prim.Native.Nat.{ℕ, ◌+◌, ◌-◌, ◌*◌}
 use native.Mathlib.Omega.{arith}
@@ -30,15 +30,15 @@ unfolding has_both
 returns-then-number_at-height c =
     let a = c.args in
     let h = height_there a.store.now a.i _ c.number_at.ensures in
-    let e : eqb (height_in (block_at a.store.now a.i)) a.height ≡ false = ap (λ (k : ℕ). eqb k a.height) (sym h)
-    ∙ ne_eqb _ a.height c.if-number_at-height.true in
-    rw e
+    let e : eqb (height_in (block_at a.store.now a.i)) a.height ≡ true =
+    ap (λ (k : ℕ). eqb k a.height) (sym h) ∙ eq-eqb _ a.height c.if-number_at-height.true in
+    rw e (c.is_same.ensures ∙ ap (λ (l : List ℕ). same l a.label.now) (label_there a.store.now a.i))
 
-pub returns : goal.returns
+pub returns-else-number_at-height : goal.returns-else-number_at-height
 unfolding has_both
-returns c =
+returns-else-number_at-height c =
     let a = c.args in
     let h = height_there a.store.now a.i _ c.number_at.ensures in
-    let e : eqb (height_in (block_at a.store.now a.i)) a.height ≡ true =
-    ap (λ (k : ℕ). eqb k a.height) (sym h) ∙ eq-eqb _ a.height c.if-number_at-height.false in
-    rw e (c.is_same.ensures ∙ ap (λ (l : List ℕ). same l a.label.now) (label_there a.store.now a.i))
+    let other = ne_eqb c.number_at.result a.height c.if-number_at-height.false in
+    let e : eqb (height_in (block_at a.store.now a.i)) a.height ≡ false = ap (λ (k : ℕ). eqb k a.height) (sym h) ∙ other in
+    other ∙ sym (ap (λ (p : Bool). p && same (label_in (block_at a.store.now a.i)) a.label.now) e)

@@ -7,10 +7,10 @@ use Rattle.listing.specs.Leading.{has_both}
 use Rattle.listing.proofs.once.next_block.Goals as goal
 
 pub loop-i-init : goal.loop-i-init
-loop-i-init c = (omega arith, omega arith, λ j h l. absurd (omega arith))
+loop-i-init c = λ j h l. absurd (omega arith)
 
 pub returns-then-has_both : goal.returns-then-has_both
-returns-then-has_both c = let l = c.loop-i in (omega arith, l.invariant.2)
+returns-then-has_both c = let l = c.loop-i in (omega arith, l.invariant)
 
 -- one block more that has not
 more :
@@ -26,7 +26,10 @@ loop-i-preserved c =
     let a = c.args in
     let l = c.loop-i in
     let here = sym c.has_both.ensures ∙ c.if-has_both.false in
-    (omega (arith, l.invariant.0), omega arith, more (has_both a.store.now a.label.now a.height) a.from l.i l.invariant.2 here)
+    more (has_both a.store.now a.label.now a.height) a.from l.i l.invariant here
 
 pub returns : goal.returns
-returns c = let l = c.loop-i in (omega arith, l.invariant.2)
+returns c =
+    let l = c.loop-i in
+    let e : l.i ≡ c.args.n = omega (arith, c.requires.0) in
+    (omega arith, rw (← e) l.invariant)
