@@ -11,15 +11,17 @@ pub extern "C" fn mahqurith_read_roll(bytes: &[u8]) -> RollRead
     ensures { result ≡ reading_roll bytes.now }
 {
     let mut table = [0u8; TABLE];
-    let counted = roll::read_roll(bytes, &mut table);
+    let read = roll::read_roll(bytes, &mut table);
     let rows = table::rows_of(&table);
-    let roll = Roll {
-        count: counted.count,
-        rows,
-    };
-    RollRead {
-        number: counted.answer,
-        roll,
+    match read {
+        Ok(count) => RollRead {
+            number: refusals::ACCEPTED,
+            roll: Roll { count, rows },
+        },
+        Err(refusal) => RollRead {
+            number: refusal.number(),
+            roll: Roll { count: 0, rows },
+        },
     }
 }
 
@@ -30,9 +32,9 @@ pub extern "C" fn mahqurith_write_roll(roll: Roll, area: &mut [u8]) -> Written
 {
     let rows = roll.rows;
     let table = table::flat(rows);
-    let written = roll::write_roll(roll.count, &table, area);
+    let written = refusals::Written::from(roll::write_roll(roll.count, &table, area));
     Written {
-        number: written.answer,
-        written: written.count,
+        number: written.number,
+        written: written.written,
     }
 }

@@ -10,7 +10,6 @@ ghost use Rattle.rules.specs.Bundle.{most_blocks};
 ghost use Rattle.rules.specs.Finalise.{finalise_size, last_words};
 
 use record::give;
-use roll::write_roll;
 use rows::roll_digest;
 use rules::Head;
 use statement::{HANDOVER_SIZE, Kind, Statement, handover_statement};
@@ -31,8 +30,8 @@ fn put_roll(count: u8, table: &[u8], area: &mut [u8]) -> usize
     requires { (rows_fit count table.now ≡ true) × (block_bytes * most_blocks ≤ length area.old) }
     ensures { (area.new ≡ put area.old 0 (first_blocks count table.now (blocks count))) × (result ≡ block_bytes * blocks count) }
 {
-    let written = write_roll(count, table, area);
-    written.count
+    roll::put_roll(count, table, area);
+    roll::roll_bytes(count)
 }
 
 // Writes the last words as the first bytes of an area; gives how many bytes.

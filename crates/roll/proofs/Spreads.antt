@@ -6,6 +6,7 @@ use Prim.Native.Nat.{ℕ, zero, suc, ◌+◌, ◌-◌, ◌*◌, ◌/◌, ◌<◌
 use native.Mathlib.Decide.{dec_lt}
 use native.Mathlib.Nat.{not-suc-le-zero}
 use native.Mathlib.Omega.{arith}
+use Rattle.std.specs.List.{list_all, range_with_len}
 use lib.ListN.{length, take, drop, replicate, length-append, length-drop, take-append-drop}
 use lib.Seq.{take-append-le, drop-append-le, drop_at, take-take, drop-drop, take-add, take-append-add, length-take-le}
 use Rattle.octets.specs.Strings.{put, all_zero, same}
@@ -117,18 +118,19 @@ module _ (s : List ℕ) (h : Spread s) where
       ∙ sym (in_block (i / places) (row_bytes * (i - places * (i / places)) + o) l (omega arith) (omega arith))
       ∙ ap (λ (x : ℕ). take l (drop x (cut_table s))) (sym e)
 
+  pub label_cut : (i at : ℕ) → at ≡ row_at i → i < places * blocks (said_count s) → take label_bytes (drop at s) ≡ label_of (cut_table s) i
+  unfolding label_of
+  label_cut i at p k = in_row i 0 label_bytes at (row_bytes * i) (omega arith) (omega arith) k (omega arith)
+
   pub label_stands : (i at : ℕ) → at ≡ row_at i → i < places * blocks (said_count s) → take (at + label_bytes - at) (drop at s) ≡ label_of (cut_table s) i
   unfolding label_of
   label_stands i at p k =
       let e : at + label_bytes - at ≡ label_bytes = omega arith in
-      rw e (in_row i 0 label_bytes at (row_bytes * i) (omega arith) (omega arith) k (omega arith))
+      rw e (label_cut i at p k)
 
-  pub tail_stands :
-      (i at : ℕ) → at ≡ row_at i + label_bytes → i < places * blocks (said_count s) → take (at + tail_bytes - at) (drop at s) ≡ tail_of (cut_table s) i
+  pub tail_cut : (i at : ℕ) → at ≡ row_at i + label_bytes → i < places * blocks (said_count s) → take tail_bytes (drop at s) ≡ tail_of (cut_table s) i
   unfolding tail_of
-  tail_stands i at p k =
-      let e : at + tail_bytes - at ≡ tail_bytes = omega arith in
-      rw e (in_row i label_bytes tail_bytes at (row_bytes * i + label_bytes) p (omega arith) k (omega arith))
+  tail_cut i at p k = in_row i label_bytes tail_bytes at (row_bytes * i + label_bytes) p (omega arith) k (omega arith)
 
   pub height_stands :
       (i at : ℕ) → at ≡ row_at i + label_bytes + tail_bytes → i < places * blocks (said_count s)
@@ -164,6 +166,17 @@ module _ (s : List ℕ) (h : Spread s) where
       (drop_at (gathered s (blocks (said_count s))) (replicate (table_bytes - length (gathered s (blocks (said_count s)))) 0)
       (row_bytes * (places * blocks (said_count s))) (omega (arith, g)))
       ∙ zeros_are (table_bytes - length (gathered s (blocks (said_count s))))
+
+  -- the place of row i is unused; and so are those behind it
+  abbrev pub place_unused : ℕ → Bool
+  place_unused i = all_zero (take row_bytes (drop (row_bytes * i) (cut_table s)))
+
+  pub rest_unused :
+      (n i : ℕ) → i + n ≡ places * blocks (said_count s)
+      → list_all place_unused (range_with_len i n) ≡ all_zero (drop (row_bytes * i) (cut_table s))
+  rest_unused zero i e = let k : i ≡ places * blocks (said_count s) = omega arith in rw k (sym rest_end)
+  rest_unused (suc n) i e =
+      ap (λ (t : Bool). place_unused i && t) (rest_unused n (i + 1) (omega arith)) ∙ sym (rest_next i)
 
   -- block b of what stands there has what stands at its place, but for head and check
   pub block_stands :

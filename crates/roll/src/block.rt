@@ -22,10 +22,7 @@ const LAYOUT: u8 = 0;
 pub fn blocks(count: u8) -> usize
     ensures { result ≡ blocks count }
 {
-    if count == 0 {
-        return 1;
-    }
-    (count as usize + (PLACES - 1)) / PLACES
+    usize::from(count).div_ceil(PLACES).max(1)
 }
 
 // The head of block b.
@@ -33,12 +30,7 @@ pub fn head_of(count: u8, b: usize) -> [u8; HEAD]
     requires { (count ≤ most_rows) × (b < blocks count) }
     ensures { result ≡ head count b }
 {
-    let mut head = [0u8; HEAD];
-    head[0] = b as u8;
-    head[1] = blocks(count) as u8;
-    head[COUNT_PLACE] = count;
-    head[3] = LAYOUT;
-    head
+    [b as u8, blocks(count) as u8, count, LAYOUT]
 }
 
 // Block b of a roll.

@@ -13,12 +13,10 @@ pub fn gather(s: &[u8], n: usize, table: &mut [u8])
     requires { (block_bytes * n ≤ length s.now) × (places_bytes * n ≤ table_bytes) × (length table.old ≡ table_bytes) }
     ensures { table.new ≡ filled table_bytes (gathered s.now n) }
 {
-    octets::clear(table);
-    let mut b = 0;
-    while b < n {
+    table.fill(0);
+    for b in 0..n {
         let from = BLOCK * b + HEAD;
         octets::copy_at(table, PLACES_BYTES * b, &s[from..from + PLACES_BYTES]);
-        b += 1;
     }
 }
 

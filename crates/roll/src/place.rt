@@ -6,9 +6,9 @@ ghost use Rattle.roll.specs.Blocks.{places, blocks};
 ghost use Rattle.roll.specs.Roll.{said_count, roll_layout};
 ghost use Rattle.roll.specs.Places.{Spread, row_at};
 
-use crate::block::{COUNT_PLACE, HEAD, PLACES, PLACES_BYTES};
+use crate::block::{COUNT_PLACE, HEAD, PLACES, PLACES_BYTES, blocks};
 use checks::BLOCK;
-use octets::copy_at;
+use octets::{array_at, number_at};
 use rows::{LABEL, ROW, TAIL};
 
 // Where row i stands.
@@ -19,37 +19,47 @@ pub fn row_at(i: usize) -> usize
     ROW * i + (HEAD + (BLOCK - PLACES_BYTES) * (i / PLACES))
 }
 
+// The row count of the whole roll, as its first block says it.
+pub fn said_count(s: &[u8]) -> u8
+    requires { Spread s.now }
+    ensures { result ≡ said_count s.now }
+{
+    s[COUNT_PLACE]
+}
+
+// How many blocks a roll has.
+pub fn blocks_in(s: &[u8]) -> usize
+    requires { Spread s.now }
+    ensures { result ≡ blocks (said_count s.now) }
+{
+    blocks(said_count(s))
+}
+
 // How many rows a roll has.
 pub fn count_in(s: &[u8]) -> usize
     requires { Spread s.now }
     ensures { result ≡ (roll_layout.cut s.now).count }
 {
-    s[COUNT_PLACE] as usize
+    usize::from(said_count(s))
 }
 
 pub fn label_in(s: &[u8], i: usize) -> [u8; LABEL]
     requires { Spread s.now × (i < places * blocks (said_count s.now)) }
     ensures { result ≡ label_of (roll_layout.cut s.now).rows i }
 {
-    let at = row_at(i);
-    let mut label = [0u8; LABEL];
-    copy_at(&mut label, 0, &s[at..at + LABEL]);
-    label
+    array_at(s, row_at(i))
 }
 
 pub fn tail_in(s: &[u8], i: usize) -> [u8; TAIL]
     requires { Spread s.now × (i < places * blocks (said_count s.now)) }
     ensures { result ≡ tail_of (roll_layout.cut s.now).rows i }
 {
-    let at = row_at(i) + LABEL;
-    let mut tail = [0u8; TAIL];
-    copy_at(&mut tail, 0, &s[at..at + TAIL]);
-    tail
+    array_at(s, row_at(i) + LABEL)
 }
 
 pub fn height_in(s: &[u8], i: usize) -> u64
     requires { Spread s.now × (i < places * blocks (said_count s.now)) }
     ensures { result ≡ height_of (roll_layout.cut s.now).rows i }
 {
-    octets::number_at(s, row_at(i) + LABEL + TAIL)
+    number_at(s, row_at(i) + LABEL + TAIL)
 }

@@ -8,8 +8,8 @@ ghost use Rattle.roll.specs.Blocks.{places, blocks};
 ghost use Rattle.roll.specs.Roll.{said_count, roll_layout};
 ghost use Rattle.roll.specs.Places.{Spread};
 
-use crate::block::{COUNT_PLACE, PLACES, blocks};
-use crate::place::{count_in, height_in, label_in, row_at, tail_in};
+use crate::block::PLACES;
+use crate::place::{blocks_in, count_in, height_in, label_in, row_at, tail_in};
 use rows::ROW;
 
 // Whether row i keeps the rules of a row.
@@ -45,15 +45,7 @@ fn all_stand(s: &[u8]) -> bool
     requires { Spread s.now }
     ensures { result ≡ each (stands (roll_layout.cut s.now).rows) (roll_layout.cut s.now).count }
 {
-    let count = count_in(s);
-    let mut i = 0;
-    while i < count {
-        if !stands(s, i) {
-            return false;
-        }
-        i += 1;
-    }
-    true
+    (0..count_in(s)).all(|i| stands(s, i))
 }
 
 // Whether the place of row i is unused.
@@ -70,15 +62,8 @@ fn rest_is_unused(s: &[u8]) -> bool
     requires { Spread s.now }
     ensures { result ≡ all_zero (drop (row_bytes * (roll_layout.cut s.now).count) (roll_layout.cut s.now).rows) }
 {
-    let end = PLACES * blocks(s[COUNT_PLACE]);
-    let mut i = count_in(s);
-    while i < end {
-        if !is_unused(s, i) {
-            return false;
-        }
-        i += 1;
-    }
-    true
+    let end = PLACES * blocks_in(s);
+    (count_in(s)..end).all(|i| is_unused(s, i))
 }
 
 // Whether the rows form a roll, with unused places after them.

@@ -9,6 +9,7 @@ ghost use Rattle.roll.specs.Roll.{said_count, roll_layout};
 ghost use Rattle.roll.specs.Places.{Spread};
 
 use crate::block::{COUNT_PLACE, HEAD, blocks, head_of};
+use crate::place::{blocks_in, said_count};
 use crate::standing::rows_stand;
 use checks::{BLOCK, CHECKED, check_of};
 use octets::is_same;
@@ -31,7 +32,7 @@ fn is_block(s: &[u8], b: usize) -> bool
     ensures { result ≡ same (block (said_count s.now) (roll_layout.cut s.now).rows b) (take block_bytes (drop (block_bytes * b) s.now)) }
 {
     let from = BLOCK * b;
-    is_whole(&s[from..from + BLOCK], s[COUNT_PLACE], b)
+    is_whole(&s[from..from + BLOCK], said_count(s), b)
 }
 
 // Whether a string is the blocks of the roll that stands in it.
@@ -39,15 +40,7 @@ fn are_blocks(s: &[u8]) -> bool
     requires { Spread s.now }
     ensures { result ≡ same (first_blocks (said_count s.now) (roll_layout.cut s.now).rows (blocks (said_count s.now))) s.now }
 {
-    let n = blocks(s[COUNT_PLACE]);
-    let mut b = 0;
-    while b < n {
-        if !is_block(s, b) {
-            return false;
-        }
-        b += 1;
-    }
-    true
+    (0..blocks_in(s)).all(|b| is_block(s, b))
 }
 
 // Whether a string is a roll: it has the blocks that its count asks, its rows fit, and each block is the one that they make.
@@ -58,7 +51,7 @@ pub fn is_roll(s: &[u8]) -> bool
         return false;
     }
     let count = s[COUNT_PLACE];
-    if MOST < count as usize {
+    if MOST < usize::from(count) {
         return false;
     }
     if s.len() != BLOCK * blocks(count) {

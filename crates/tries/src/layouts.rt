@@ -52,8 +52,7 @@ fn blocks_for(rt: &impl Print, count: u8, table: &[u8; TABLE]) -> Result<()> {
 }
 
 fn blocks_written(count: u8, table: &[u8; TABLE], area: &mut [u8; ROLL]) -> usize {
-    let written = roll::write_roll(count, table, area);
-    written.count / BLOCK
+    roll::write_roll(count, table, area).unwrap_or(0) / BLOCK
 }
 
 pub fn racks(rt: &impl Print) -> Result<()> {

@@ -1,19 +1,20 @@
-use mathlib.Core.Path.{ap, ◌∙◌}
-use mathlib.Core.List.{List}
-use Prim.Native.Nat.{ℕ}
 use native.Mathlib.Omega.{arith}
-use Rattle.octets.specs.Layouts.{Written}
-use Rattle.roll.proofs.Rolls.{writing_done}
+use Rattle.rows.proofs.Tables.{fit_length, fit_count}
 use Rattle.leaving.proofs.Said.{roll_room}
 use Rattle.leaving.proofs.words.put_roll.Goals as goal
 
+pub put_roll-requires : goal.put_roll-requires
+put_roll-requires c =
+    let start = c in
+    let n = start.args.count in
+    let t = start.args.table.now in
+    let fit = start.requires.0 in
+    (fit_count n t fit, fit_length n t fit, omega (arith, start.requires.1, roll_room n t fit))
+
+pub roll_bytes-requires : goal.roll_bytes-requires
+roll_bytes-requires c =
+    let start = c in
+    fit_count start.args.count start.args.table.now start.requires.0
+
 pub returns : goal.returns
-returns c =
-    let wrote = c in
-    let entry = c in
-    let n = entry.args.count in
-    let t : List ℕ = entry.args.table.now in
-    let area : List ℕ = entry.args.area.now in
-    let fit = entry.requires.0 in
-    let w = wrote.write_roll-written.ensures ∙ writing_done n t area fit (omega (arith, entry.requires.1, roll_room n t fit)) in
-    (ap (λ (x : Written). x.area) w, ap (λ (x : Written). x.count) w)
+returns c = (c.put_roll.ensures, c.roll_bytes.ensures)

@@ -6,11 +6,11 @@ use Rattle.roll.specs.Blocks.{head, layout_byte}
 use Rattle.roll.proofs.Blocks.{blocks_within}
 use Rattle.roll.proofs.block.head_of.Goals as goal
 
-pub overflow_cast-head : goal.overflow_cast-head
-overflow_cast-head c = omega (arith, blocks_within c.args.count c.requires.0)
+pub overflow_cast-result : goal.overflow_cast-result
+overflow_cast-result c = omega (arith, blocks_within c.args.count c.requires.0)
 
-pub overflow_cast-head-2 : goal.overflow_cast-head-2
-overflow_cast-head-2 c = omega (arith, c.blocks-2.ensures, blocks_within c.args.count c.requires.0)
+pub overflow_cast-result-2 : goal.overflow_cast-result-2
+overflow_cast-result-2 c = omega (arith, c.blocks-2.ensures, blocks_within c.args.count c.requires.0)
 
 pub returns : goal.returns
 unfolding head

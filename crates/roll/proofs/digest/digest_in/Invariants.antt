@@ -1,5 +1,5 @@
 use mathlib.Core.Path.{◌≡◌}
-use Prim.Native.Nat.{◌+◌, ◌-◌, ◌≤◌}
+use Prim.Native.Nat.{◌+◌}
 use lib.ListN.{length}
 use Rattle.octets.specs.Strings.{put}
 use Rattle.rows.specs.Sizes.{table_bytes}
@@ -7,7 +7,4 @@ use Rattle.roll.specs.Blocks.{gathered}
 use Rattle.roll.proofs.digest.digest_in.Given as goal
 
 abbrev pub invariant-loop-b : goal.invariant-loop-b
-invariant-loop-b l = (l.b ≤ l.n) × (length l.initial.message ≡ 2 + table_bytes) × (length l.message ≡ 2 + table_bytes) × (l.message ≡ put l.initial.message 2 (gathered l.s l.b))
-
-abbrev pub decreases-loop-b : goal.decreases-loop-b
-decreases-loop-b l = l.n - l.b
+invariant-loop-b l = (length l.initial.message ≡ 2 + table_bytes) × (length l.message ≡ 2 + table_bytes) × (l.message ≡ put l.initial.message 2 (gathered l.s l.b))

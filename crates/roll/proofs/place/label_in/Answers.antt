@@ -1,25 +1,19 @@
-use mathlib.Core.Path.{◌≡◌, ◌∙◌}
-use Prim.Native.Nat.{◌+◌, ◌-◌}
+use mathlib.Core.Path.{◌∙◌}
 use native.Mathlib.Omega.{arith}
-use lib.ListN.{length, take, drop, length-take, length-drop}
-use Rattle.octets.proofs.Puts.{put_all}
-use Rattle.rows.specs.Sizes.{label_bytes}
 use Rattle.roll.specs.Roll.{roll_layout}
-use Rattle.roll.proofs.Spreads.{row_lies, label_stands}
+use Rattle.roll.proofs.Spreads.{row_lies, label_cut}
 use Rattle.roll.proofs.place.label_in.Goals as goal
 
-pub row_at-at-requires : goal.row_at-at-requires
-row_at-at-requires c = let start = c in (row_lies start.args.s.now start.requires.0 start.args.i start.requires.1).1
+pub row_at-requires : goal.row_at-requires
+row_at-requires c = let start = c in (row_lies start.args.s.now start.requires.0 start.args.i start.requires.1).1
+
+pub array_at-requires : goal.array_at-requires
+array_at-requires c =
+    let start = c in
+    omega (arith, c.row_at.ensures, (row_lies start.args.s.now start.requires.0 start.args.i start.requires.1).0)
 
 pub returns : goal.returns
 unfolding roll_layout
 returns c =
     let start = c in
-    let s = start.args.s.now in
-    let stood = c.row_at-at in
-    let e = stood.ensures in
-    let lies = row_lies s start.requires.0 start.args.i start.requires.1 in
-    let l : length (take (stood.result + label_bytes - stood.result) (drop stood.result s)) ≡ label_bytes = simp (length-take, length-drop) (omega arith) in
-    c.copy_at.ensures
-    ∙ put_all _ (take (stood.result + label_bytes - stood.result) (drop stood.result s)) l
-    ∙ label_stands s start.requires.0 start.args.i stood.result (omega arith) start.requires.1
+    c.array_at.ensures ∙ label_cut start.args.s.now start.requires.0 start.args.i c.row_at.result c.row_at.ensures start.requires.1

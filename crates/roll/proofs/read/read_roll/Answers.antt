@@ -19,13 +19,13 @@ returns-then-not-is_roll c =
     let a = c.args in
     sym (reading_broken a.s.now a.rows.now (sym c.is_roll.ensures ∙ c.if-not-is_roll.true))
 
-pub take_rows-count-requires : goal.take_rows-count-requires
-take_rows-count-requires c = (held (goal.at.take_rows-count-requires c).Else-not-is_roll, search rules)
+pub take_rows-requires : goal.take_rows-requires
+take_rows-requires c = (held (goal.at.take_rows-requires c).Else-not-is_roll, search rules)
 
 pub returns : goal.returns
 unfolding roll_layout
 returns c =
     let a = c.args in
-    let took = c.take_rows-count.ensures in
+    let took = c.take_rows.ensures in
     ap₂ {C = Reading} (λ (n : ℕ) (r : List ℕ). record { answer = accepted; count = n; rows = r }) took.0 took.1
     ∙ sym (reading_done a.s.now a.rows.now (held (goal.at.returns c).Else-not-is_roll))

@@ -1,36 +1,31 @@
-use mathlib.Core.Path.{◌≡◌, refl, sym, ◌∙◌}
-use mathlib.Core.Bool.{true}
+use mathlib.Core.Path.{◌∙◌, ap}
 use native.Mathlib.Omega.{arith}
+use borrow.Author.Rules.{rules}
+use borrow.Author.Tests.{tests}
+use Prim.Native.Nat.{◌*◌, ◌<◌}
+use Rattle.std.proofs.lemmas.Iterator.{YieldsList-from_range, serves_from_Range}
+use Rattle.std.proofs.lemmas.Iterator.Search.{all_from_yields_List}
 use Rattle.rows.specs.Table.{each, stands}
-use Rattle.rows.proofs.Tables.{each_next, each_fails}
-use Rattle.roll.specs.Roll.{roll_layout}
+use Rattle.rows.proofs.Tables.{each_listed}
+use Rattle.roll.specs.Blocks.{places, blocks}
+use Rattle.roll.specs.Roll.{said_count, roll_layout}
 use Rattle.roll.proofs.Spreads.{has_place}
 use Rattle.roll.proofs.standing.all_stand.Goals as goal
 
-pub loop-i-init : goal.loop-i-init
-unfolding each
-loop-i-init c = (omega arith, refl)
-
-pub stands-requires : goal.stands-requires
+pub all-requires-clause-callable : goal.all-requires-clause-callable
 unfolding roll_layout
-stands-requires c =
+all-requires-clause-callable c =
     let start = c in
-    (start.requires, has_place start.args.s.now start.requires c.loop-i.i (omega (arith, c.count_in-count.ensures)))
-
-pub returns-then-not-stands : goal.returns-then-not-stands
-returns-then-not-stands c =
-    let s = c.args.s.now in
-    sym (each_fails (stands (roll_layout.cut s).rows) (roll_layout.cut s).count c.loop-i.i (omega (arith, c.count_in-count.ensures))
-    (sym c.stands.ensures ∙ c.if-not-stands.true))
-
-pub loop-i-preserved : goal.loop-i-preserved
-loop-i-preserved c =
-    let s = c.args.s.now in
-    let l = c.loop-i in
-    (omega arith, each_next (stands (roll_layout.cut s).rows) l.i l.invariant.1 (sym c.stands.ensures ∙ c.if-not-stands.false))
+    let s = start.args.s.now in
+    serves_from_Range (λ x q k. search rules)
+    (λ x h l.
+    let within : x < places * blocks (said_count s) = has_place s start.requires x (omega (arith, c.count_in.ensures)) in
+    search rules)
 
 pub returns : goal.returns
 returns c =
-    let l = c.loop-i in
-    let e : l.i ≡ (roll_layout.cut c.args.s.now).count = omega (arith, c.count_in-count.ensures) in
-    sym (rw e at l.invariant.1)
+    let s = c.args.s.now in
+    let n = c.count_in.result in
+    all_from_yields_List (stands (roll_layout.cut s).rows) _ _ _ c.all.ensures.ran (YieldsList-from_range 0 n n (cc) (omega arith)) (λ x b q k. search (rules, tests))
+    ∙ each_listed (stands (roll_layout.cut s).rows) n
+    ∙ ap (each (stands (roll_layout.cut s).rows)) c.count_in.ensures

@@ -1,47 +1,34 @@
-use mathlib.Core.Path.{◌≡◌, refl, sym, ◌∙◌}
-use mathlib.Core.Bool.{true}
+use mathlib.Core.Path.{sym, ap, ◌∙◌}
+use Prim.Native.Nat.{◌<◌}
 use native.Mathlib.Omega.{arith}
+use borrow.Author.Rules.{rules}
+use borrow.Author.Tests.{tests}
+use Rattle.std.proofs.lemmas.Iterator.{YieldsList-from_range, serves_from_Range}
+use Rattle.std.proofs.lemmas.Iterator.Search.{all_from_yields_List}
 use Rattle.rows.specs.Table.{each}
-use Rattle.rows.proofs.Tables.{each_next, each_fails}
+use Rattle.rows.proofs.Tables.{each_listed}
 use Rattle.roll.specs.Blocks.{blocks}
 use Rattle.roll.specs.Roll.{said_count, roll_layout}
-use Rattle.roll.proofs.Blocks.{stands_at, blocks_hold, all_same}
+use Rattle.roll.proofs.Blocks.{stands_at, all_same}
 use Rattle.roll.proofs.Rolls.{cut_table}
 use Rattle.roll.proofs.Spreads.{table_long}
 use Rattle.roll.proofs.test.are_blocks.Goals as goal
 
-pub bounds-s-2 : goal.bounds-s-2
-bounds-s-2 c = let start = c in omega (arith, start.requires.long, (blocks_hold (said_count start.args.s.now)).0)
-
-pub loop-b-init : goal.loop-b-init
-unfolding each
-loop-b-init c = (omega arith, refl)
-
-pub is_block-requires : goal.is_block-requires
-unfolding said_count
-is_block-requires c = (c.requires, omega (arith, c.blocks-n.ensures))
-
-pub returns-then-not-is_block : goal.returns-then-not-is_block
-unfolding said_count roll_layout
-returns-then-not-is_block c =
+pub all-requires-clause-callable : goal.all-requires-clause-callable
+all-requires-clause-callable c =
     let start = c in
-    let s = start.args.s.now in
-    sym (all_same (said_count s) (cut_table s) s start.requires.few (table_long s start.requires) start.requires.long
-    ∙ each_fails (stands_at (said_count s) (cut_table s) s) (blocks (said_count s)) c.loop-b.b (omega (arith, c.blocks-n.ensures))
-    (sym c.is_block.ensures ∙ c.if-not-is_block.true))
-
-pub loop-b-preserved : goal.loop-b-preserved
-unfolding roll_layout
-loop-b-preserved c =
-    let s = c.args.s.now in
-    let l = c.loop-b in
-    (omega arith, each_next (stands_at (said_count s) (cut_table s) s) l.b l.invariant.1 (sym c.is_block.ensures ∙ c.if-not-is_block.false))
+    serves_from_Range (λ x q k. search rules)
+    (λ x h l.
+    let within : x < blocks (said_count start.args.s.now) = omega (arith, c.blocks_in.ensures) in
+    search rules)
 
 pub returns : goal.returns
-unfolding said_count roll_layout
+unfolding roll_layout
 returns c =
     let start = c in
     let s = start.args.s.now in
-    let l = c.loop-b in
-    let e : l.b ≡ blocks (said_count s) = omega (arith, c.blocks-n.ensures) in
-    sym (all_same (said_count s) (cut_table s) s start.requires.few (table_long s start.requires) start.requires.long ∙ rw e at l.invariant.1)
+    let n = c.blocks_in.result in
+    all_from_yields_List (stands_at (said_count s) (cut_table s) s) _ _ _ c.all.ensures.ran (YieldsList-from_range 0 n n (cc) (omega arith)) (λ x b q k. search (rules, tests))
+    ∙ each_listed (stands_at (said_count s) (cut_table s) s) n
+    ∙ ap (each (stands_at (said_count s) (cut_table s) s)) c.blocks_in.ensures
+    ∙ sym (all_same (said_count s) (cut_table s) s start.requires.few (table_long s start.requires) start.requires.long)

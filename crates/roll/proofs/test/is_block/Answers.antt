@@ -12,19 +12,19 @@ use Rattle.roll.proofs.Spreads.{block_stands}
 use Rattle.roll.proofs.test.is_block.Goals as goal
 
 pub is_whole-requires : goal.is_whole-requires
-unfolding said_count
 is_whole-requires c =
     let start = c in
-    (simp (length-take, length-drop) (omega (arith, start.requires.0.long)), start.requires.0.few, start.requires.1)
+    let said = c.said_count.ensures in
+    (simp (length-take, length-drop) (omega (arith, start.requires.0.long)), rw said start.requires.0.few, rw said start.requires.1)
 
 pub returns : goal.returns
-unfolding said_count roll_layout
+unfolding roll_layout
 returns c =
     let start = c in
     let a = start.args in
     let s = a.s.now in
     let e : block_bytes * a.b + block_bytes - block_bytes * a.b ≡ block_bytes = omega arith in
-    c.is_whole.ensures
+    rw c.said_count.ensures at c.is_whole.ensures
     ∙ ap (λ (y : List ℕ). same (head (said_count s) a.b) (take head_bytes y) && same (check (take checked_bytes y)) (drop checked_bytes y))
     (ap (λ (k : ℕ). take k (drop (block_bytes * a.b) s)) e)
     ∙ sym (block_stands s start.requires.0 a.b start.requires.1)

@@ -12,7 +12,7 @@ use Rattle.roll.proofs.test.is_roll.Goals.{Else-s-blocks}
 -- what the first three tests have shown
 spread : (c : Else-s-blocks) → Spread c.args.s.now
 unfolding said_count
-spread c = record { few = c.if-count-gt-MOST.false; long = omega (arith, c.blocks-2.ensures) }
+spread c = record { few = omega (arith, c.if-from-gt-MOST.false, c.from.ensures); long = omega (arith, c.blocks-2.ensures) }
 
 pub returns-then-s-lt-BLOCK : goal.returns-then-s-lt-BLOCK
 unfolding said_count
@@ -21,17 +21,14 @@ returns-then-s-lt-BLOCK c =
     let hold = blocks_hold (said_count s) in
     sym (no_length s (λ e. omega arith))
 
-pub overflow_cast-count : goal.overflow_cast-count
-overflow_cast-count c = omega (arith, c.shared_slice_known-2-1.given count_place)
-
-pub returns-then-count-gt-MOST : goal.returns-then-count-gt-MOST
+pub returns-then-from-gt-MOST : goal.returns-then-from-gt-MOST
 unfolding said_count
-returns-then-count-gt-MOST c = sym (no_count c.args.s.now c.if-count-gt-MOST.true)
+returns-then-from-gt-MOST c = sym (no_count c.args.s.now (omega (arith, c.if-from-gt-MOST.true, c.from.ensures)))
 
 pub overflow_mul-blocks : goal.overflow_mul-blocks
 overflow_mul-blocks c =
     let a = c.args in
-    omega (arith, c.blocks-2.ensures, blocks_within (get_or a.s.now count_place 0) c.if-count-gt-MOST.false)
+    omega (arith, c.blocks-2.ensures, blocks_within (get_or a.s.now count_place 0) (omega (arith, c.if-from-gt-MOST.false, c.from.ensures)))
 
 pub returns-then-s-blocks : goal.returns-then-s-blocks
 unfolding said_count

@@ -10,7 +10,7 @@ use Rattle.roll.proofs.write.put_blocks.Goals as goal
 
 pub loop-b-init : goal.loop-b-init
 unfolding put first_blocks
-loop-b-init c = (omega arith, refl)
+loop-b-init c = refl
 
 pub overflow_mul-b : goal.overflow_mul-b
 overflow_mul-b c = omega (arith, blocks_within c.args.count c.requires.0)
@@ -23,24 +23,19 @@ copy_at-requires c =
     let most = blocks_within a.count p.0 in
     omega (
       arith,
-      ap length c.made_block-block.ensures ∙ block_length a.count a.rows.now l.b (omega arith),
-      ap length l.invariant.1 ∙ first_put_length a.count a.rows.now a.area.now l.b (omega arith) (omega arith),
+      ap length c.made_block.ensures ∙ block_length a.count a.rows.now l.b (omega arith),
+      ap length l.invariant ∙ first_put_length a.count a.rows.now a.area.now l.b (omega arith) (omega arith),
     )
-
-pub overflow_add-b : goal.overflow_add-b
-overflow_add-b c = omega (arith, blocks_within c.args.count c.requires.0)
 
 pub loop-b-preserved : goal.loop-b-preserved
 loop-b-preserved c =
     let a = c.args in
     let p = c.requires in
     let l = c.loop-b in
-    let most = blocks_within a.count p.0 in (
-      omega arith,
-      c.copy_at.ensures
-          ∙ ap₂ (λ (d x : List ℕ). put d (block_bytes * l.b) x) l.invariant.1 c.made_block-block.ensures
-          ∙ first_put_next a.count a.rows.now a.area.now l.b (omega arith) (omega arith),
-    )
+    let most = blocks_within a.count p.0 in
+    c.copy_at.ensures
+    ∙ ap₂ (λ (d x : List ℕ). put d (block_bytes * l.b) x) l.invariant c.made_block.ensures
+    ∙ first_put_next a.count a.rows.now a.area.now l.b (omega arith) (omega arith)
 
 pub shape_of-area : goal.shape_of-area
 shape_of-area c =
@@ -48,11 +43,11 @@ shape_of-area c =
     let p = c.requires in
     let l = c.loop-b in
     let most = blocks_within a.count p.0 in
-    ap length l.invariant.1 ∙ first_put_length a.count a.rows.now a.area.now l.b (omega arith) (omega arith)
+    ap length l.invariant ∙ first_put_length a.count a.rows.now a.area.now l.b (omega arith) (omega arith)
 
 pub returns : goal.returns
 returns c =
     let l = c.loop-b in
     let a = c.args in
     let e : l.b ≡ a.n = omega arith in
-    rw e at l.invariant.1
+    rw e at l.invariant

@@ -3,7 +3,6 @@ use mathlib.Core.List.{List}
 use Prim.Native.Nat.{ℕ, ◌*◌}
 use native.Mathlib.Omega.{arith}
 use Rattle.octets.specs.Strings.{put}
-use Rattle.rows.specs.Table.{rows_fit}
 use Rattle.rows.proofs.Tables.{fit_length, fit_count}
 use Rattle.roll.specs.Blocks.{blocks, first_blocks, block_bytes}
 use Rattle.roll.proofs.Blocks.{blocks_within}
