@@ -16,7 +16,7 @@ use Rattle.refusals.proofs.Answered.{number_refuses}
 use Rattle.octets.specs.Strings.{put}
 use Rattle.rules.specs.declared.Head.{Head}
 use Rattle.rules.specs.declared.Done.{Done}
-use Rattle.rules.specs.Outcomes.{Lent, Outcome, outcome, refusing, told, refused, given, unless}
+use Rattle.rules.specs.Outcomes.{Lent, Outcome, outcome, refusing, told, told_place, refused, given, unless}
 
 module _ (r : Refusal) (n height : ℕ) (e : refusal_number r ≡ n) where
   -- the answer of a refusal that shows the height where it is out of order
@@ -54,3 +54,35 @@ done_told k d n height bytes table t a head h e f g = rw (eq-eqb n accepted h, e
 -- what `?` hands on, at a goal that names the result: `handed_on _ _ c.from_residual.ensures.1`
 pub handed_on : {A : Type 0} (q : Result A Refusal) (r : Refusal) → IsErrAnd q (λ y. y ≡ r) → q ≡ Err r
 handed_on q r h = let p = err_from_is_err_and q h in p.1 ∙ ap (λ (y : Refusal). Err y) p.2
+
+-- a call whose `?` hands a refusal on
+pub passed_told :
+    (k : Lent) (q : Result Done Refusal) (r : Refusal) (n height : ℕ) (effect : Outcome) → IsErrAnd q (λ y. y ≡ r) → refusal_number r ≡ n
+    → (n ≡ out_of_order → refusal_height r ≡ height) → outcome (told k.head q) k.table k.area ≡ unless n height k effect
+passed_told k q r n height effect h e shows =
+    ap (λ (x : Result Done Refusal). outcome (told k.head x) k.table k.area) (handed_on q r h) ∙ refused_told k r n height effect e shows
+
+pub passed_alone :
+    (k : Lent) (q : Result Done Refusal) (r : Refusal) (n height : ℕ) (effect : Outcome) → IsErrAnd q (λ y. y ≡ r) → refusal_number r ≡ n
+    → eqb n out_of_order ≡ false → outcome (told k.head q) k.table k.area ≡ unless n height k effect
+passed_alone k q r n height effect h e other =
+    ap (λ (x : Result Done Refusal). outcome (told k.head x) k.table k.area) (handed_on q r h) ∙ refused_alone k r n height effect e other
+
+-- the same of a call that gives a place and leaves the head
+pub refused_place :
+    (k : Lent) (written : ℕ) (r : Refusal) (n height : ℕ) (effect : Outcome) → refusal_number r ≡ n → (n ≡ out_of_order → refusal_height r ≡ height)
+    → outcome (told_place k.head written (Err r)) k.table k.area ≡ unless n height k effect
+unfolding refused unless
+refused_place k written r n height effect e shows = rw (ne_eqb n accepted (λ z. number_refuses r (e ∙ z)), refusing_as r n height e shows)
+
+pub passed_place :
+    (k : Lent) (written : ℕ) (q : Result ℕ Refusal) (r : Refusal) (n height : ℕ) (effect : Outcome) → IsErrAnd q (λ y. y ≡ r) → refusal_number r ≡ n
+    → (n ≡ out_of_order → refusal_height r ≡ height) → outcome (told_place k.head written q) k.table k.area ≡ unless n height k effect
+passed_place k written q r n height effect h e shows =
+    ap (λ (x : Result ℕ Refusal). outcome (told_place k.head written x) k.table k.area) (handed_on q r h) ∙ refused_place k written r n height effect e shows
+
+pub done_place :
+    (k : Lent) (i n height : ℕ) (bytes table t a : List ℕ) → n ≡ accepted → t ≡ table → a ≡ put k.area 0 bytes
+    → outcome (told_place k.head (length bytes) (Ok i)) t a ≡ unless n height k (given bytes k.head table k.area)
+unfolding given unless
+done_place k i n height bytes table t a h f g = rw (eq-eqb n accepted h, f, g)
