@@ -6,14 +6,15 @@ use Prim.Native.Nat.{ℕ, ◌≤◌, ◌<◌}
 use native.Mathlib.Omega.{arith}
 use borrow.Author.Tests.{eqb-false, ltb-true, not-false}
 use lib.ListN.{length}
-use lib.Dec.{ltb}
-use Rattle.refusals.specs.{accepted, not_prepared, rack_broken, digest_differs, list_broken, roll_broken, not_derived}
+use lib.Dec.{eqb, ltb}
+use Rattle.refusals.specs.{accepted, out_of_order, not_prepared, rack_broken, digest_differs, list_broken, roll_broken, not_derived}
 use Rattle.refusals.specs.Order.{Test, ◌⇒◌, first}
-use Rattle.refusals.proofs.Orders.{numbered, passes, stops, goes_on, none_refuses}
+use Rattle.refusals.proofs.Orders.{numbered, passes, stops, goes_on, none_refuses, lacks, lacking}
 use Rattle.octets.specs.Layouts.{holds}
 use Rattle.rack.specs.Racks.{rack_layout}
 use Rattle.rows.specs.Table.{each, rows_fit}
 use Rattle.rows.proofs.Tables.{fit_count}
+use Rattle.statement.specs.Kinds.{handover_size}
 use Rattle.rules.specs.declared.Head.{Head}
 use Rattle.rules.specs.Record.{prepared}
 use Rattle.rules.specs.Outcomes.{Lent, lending, readiness}
@@ -24,8 +25,8 @@ use Rattle.rules.specs.Check.{entries_of}
 use Rattle.rules.proofs.Firsts.{ready, sound_rows}
 use Rattle.bundle.proofs.Places.{bundle_short, bundle_ends}
 use Rattle.entries.specs.Asked.{attended_tests}
-use Rattle.entries.proofs.Attended.{attended_numbered}
-use Rattle.handover.specs.Asked.{rack_tests, entry_test, roll_held, Laid, Shown}
+use Rattle.entries.proofs.Attended.{attended_numbered, attended_lack}
+use Rattle.handover.specs.Asked.{rack_tests, entry_test, activate_refusal, check_refusal, roll_held, Laid, Shown}
 
 -- readiness, the racks, and the bundle's string with its rolls
 module _ (size : ℕ) (k : Lent) (previous own s : List ℕ) where
@@ -143,3 +144,14 @@ module _ (k : Lent) (previous own s : List ℕ) where
   pub roll_decides : first (attended_tests previous own s) ≡ accepted → first (handover_tests k previous own s) ≡ first roll_test
   roll_decides e =
       ap first handover_parts ∙ goes_on (attended_tests previous own s) roll_test accepted (attended_numbered previous own s) (sym e) refl
+
+  -- no refusal of Activate shows a height
+  pub activate_other : eqb (activate_refusal k previous own s) out_of_order ≡ false
+  unfolding bundle_tests handover_tests attended_tests readiness lending lacks
+  activate_other =
+      lacking out_of_order (bundle_tests 0 k previous own s ++ handover_tests k previous own s) (attended_lack previous own s roll_test refl)
+
+-- nor does one of Bytes to check
+pub check_other : (k : Lent) (previous own s : List ℕ) (list i : ℕ) → eqb (check_refusal k previous own s list i) out_of_order ≡ false
+unfolding bundle_tests readiness lending lacks
+check_other k previous own s list i = lacking out_of_order (bundle_tests handover_size k previous own s ++ entry_test s list i) refl

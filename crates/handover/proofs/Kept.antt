@@ -1,12 +1,15 @@
 -- Laws of the rows that old entries keep: a roll that is not derived, and flags that are set one by one. Assumes nothing.
-use mathlib.Core.Path.{◌≡◌, refl, ap, ◌∙◌}
-use mathlib.Core.Bool.{Bool, false, ◌||◌}
-use mathlib.Core.List.{List}
+use mathlib.Core.Path.{◌≡◌, refl, ap, ap₂, ◌∙◌}
+use mathlib.Core.Bool.{Bool, false, ◌&&◌, ◌||◌, and-true}
+use mathlib.Core.List.{List, [], ◌∷◌}
 use Prim.Native.Nat.{ℕ, zero, suc, ◌+◌, ◌<◌, ◌≤◌}
 use native.Mathlib.Decide.{dec_lt}
 use native.Mathlib.Nat.{not-suc-le-zero}
 use native.Mathlib.Omega.{arith}
-use lib.ListN.{length, set, length-set}
+use Rattle.std.specs.List.{list_all}
+use Rattle.std.proofs.lemmas.List.Folds.{list_all-append}
+use Rattle.std.proofs.Math.Seq.{take-suc}
+use lib.ListN.{length, get_or, take, set, length-set}
 use lib.Seq.{get_or-set_same, get_or-set_other}
 use Rattle.rows.specs.Table.{each}
 use Rattle.roll.specs.Roll.{Roll}
@@ -17,6 +20,15 @@ use Rattle.handover.specs.Asked.{flag}
 pub not_derived : (ours : Roll) (s : List ℕ) → each (roll_derived ours s) (old_count s) ≡ false → derived ours s ≡ false
 unfolding derived
 not_derived ours s e = rw e
+
+-- as many of the first flags as are looked at
+pub flags_all : (flags : List Bool) (n : ℕ) → n ≤ length flags → list_all (λ k. k) (take n flags) ≡ each (flag flags) n
+unfolding each
+flags_all flags zero h = refl
+flags_all flags (suc n) h =
+    ap (list_all (λ k. k)) (take-suc flags n false (omega arith))
+    ∙ list_all-append (λ k. k) (take n flags) (get_or flags n false ∷ [])
+    ∙ ap₂ ◌&&◌ (flags_all flags n (omega arith)) (and-true (get_or flags n false))
 
 -- flags that are noted by a test up to r, and behind it as they were
 pub record NotedTo (test : ℕ → Bool) (before after : List Bool) (r : ℕ) : Type 0 where

@@ -1,57 +1,72 @@
 // Activate.
 ghost use Rattle.std.specs.Prelude.{◌≡◌, []};
 ghost use Rattle.refusals.specs.Order.{first};
-ghost use Rattle.rules.specs.Outcomes.{Lent, outcome};
+ghost use Rattle.refusals.specs.Refused.{answer_of};
+ghost use Rattle.rules.specs.Outcomes.{Lent, outcome, told};
 ghost use Rattle.rules.specs.Activate.{handover_tests, acting, activating};
 ghost use Rattle.handover.specs.Asked.{activate_refusal, Shown};
 
-use crate::asking::unbundled;
+use crate::asking::check_bundled;
 use crate::descent::derived;
-use entries::unattended;
-use record::{ACTIVE, acceptance, refusal};
-use rules::{Head, Told};
+use entries::check_attended;
+use record::ACTIVE;
+use refusals::Refusal;
+use rules::{Done, Head};
 
-// The first refusal of what a bundle shows, or 0.
-fn unhanded(head: Head, table: &[u8], previous: &[u8], own: &[u8], s: &[u8]) -> u32
+// Tests what a bundle shows.
+fn check_shown(
+    head: Head,
+    table: &[u8],
+    previous: &[u8],
+    own: &[u8],
+    s: &[u8],
+) -> Result<(), Refusal>
     requires { Shown head table.now previous.now own.now s.now }
-    ensures { result ≡ first (handover_tests (record { head = head; table = table.now; area = [] }) previous.now own.now s.now) }
+    ensures { answer_of result ≡ first (handover_tests (record { head = head; table = table.now; area = [] }) previous.now own.now s.now) }
 {
-    let n = unattended(previous, own, s);
-    if n != refusals::ACCEPTED {
-        return n;
+    check_attended(previous, own, s)?;
+    if !derived(table, usize::from(head.count), s) {
+        return Err(Refusal::NotDerived);
     }
-    if !derived(table, head.count as usize, s) {
-        return refusals::NOT_DERIVED;
-    }
-    refusals::ACCEPTED
+    Ok(())
 }
 
-// The first refusal, or 0.
-fn refusal_of_activate(head: Head, table: &[u8], previous: &[u8], own: &[u8], s: &[u8]) -> u32
-    ensures { result ≡ activate_refusal (record { head = head; table = table.now; area = [] }) previous.now own.now s.now }
+fn check_activate(
+    head: Head,
+    table: &[u8],
+    previous: &[u8],
+    own: &[u8],
+    s: &[u8],
+) -> Result<(), Refusal>
+    ensures { answer_of result ≡ activate_refusal (record { head = head; table = table.now; area = [] }) previous.now own.now s.now }
 {
-    let n = unbundled(head, table, &s[..0], 0, previous, own, s);
-    if n != refusals::ACCEPTED {
-        return n;
-    }
-    unhanded(head, table, previous, own, s)
+    check_bundled(head, table, &[], 0, previous, own, s)?;
+    check_shown(head, table, previous, own, s)
 }
 
 fn acting(head: Head) -> Head
     ensures { result ≡ acting head }
 {
-    let mut next = head;
-    next.status = ACTIVE;
-    next
+    Head {
+        status: ACTIVE,
+        ..head
+    }
 }
 
 // A prepared keeper becomes active: majorities of both racks stand behind its roll.
-pub fn activate(head: Head, table: &[u8], previous: &[u8], own: &[u8], s: &[u8]) -> Told
-    ensures { outcome result table.now [] ≡ activating (record { head = head; table = table.now; area = [] }) previous.now own.now s.now }
+pub fn activate(
+    head: Head,
+    table: &[u8],
+    previous: &[u8],
+    own: &[u8],
+    s: &[u8],
+) -> Result<Done, Refusal>
+    ensures { outcome (told head result) table.now [] ≡ activating (record { head = head; table = table.now; area = [] }) previous.now own.now s.now }
 {
-    let n = refusal_of_activate(head, table, previous, own, s);
-    if n != refusals::ACCEPTED {
-        return refusal(n, 0, head);
-    }
-    acceptance(0, acting(head))
+    check_activate(head, table, previous, own, s)?;
+    Ok(Done {
+        written: 0,
+        repeat: false,
+        head: acting(head),
+    })
 }

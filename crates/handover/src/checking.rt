@@ -1,16 +1,18 @@
 // Bytes to check.
 ghost use Rattle.std.specs.Prelude.{◌≡◌, true, ◌+◌, ◌<◌, ◌≤◌, length};
+ghost use Rattle.refusals.specs.Refused.{answer_of};
 ghost use Rattle.rules.specs.Bundle.{longest_bundle, old_at, new_at};
-ghost use Rattle.rules.specs.Outcomes.{Lent, outcome};
+ghost use Rattle.rules.specs.Outcomes.{Lent, outcome, told};
 ghost use Rattle.rules.specs.Check.{entries_of, checking};
 ghost use Rattle.handover.specs.Asked.{check_refusal, roll_held, old_digest, spoken};
 
-use crate::asking::unbundled;
+use crate::asking::check_bundled;
 use bundle::{new_count, old_count, old_roll};
-use record::{acceptance, give, refusal};
+use record::give;
+use refusals::Refusal;
 use roll::digest_in;
 use rows::{DIGEST, roll_digest};
-use rules::{Head, Told};
+use rules::{Done, Head};
 use statement::{HANDOVER_SIZE, Kind, Statement, handover_statement};
 
 // The lists by their numbers.
@@ -32,8 +34,7 @@ fn entries_of(s: &[u8], list: u8) -> usize
     0
 }
 
-// The first refusal, or 0.
-fn refusal_of_check(
+fn check_entry(
     head: Head,
     table: &[u8],
     area: &[u8],
@@ -42,17 +43,14 @@ fn refusal_of_check(
     s: &[u8],
     list: u8,
     entry: u64,
-) -> u32
-    ensures { result ≡ check_refusal (record { head = head; table = table.now; area = area.now }) previous.now own.now s.now list entry }
+) -> Result<(), Refusal>
+    ensures { answer_of result ≡ check_refusal (record { head = head; table = table.now; area = area.now }) previous.now own.now s.now list entry }
 {
-    let n = unbundled(head, table, area, HANDOVER_SIZE, previous, own, s);
-    if n != refusals::ACCEPTED {
-        return n;
+    check_bundled(head, table, area, HANDOVER_SIZE, previous, own, s)?;
+    if entries_of(s, list) as u64 <= entry {
+        return Err(Refusal::ListBroken);
     }
-    if entry < entries_of(s, list) as u64 {
-        return refusals::ACCEPTED;
-    }
-    refusals::LIST_BROKEN
+    Ok(())
 }
 
 // The digest of the roll of old entry i.
@@ -68,15 +66,18 @@ fn spoken(head: Head, table: &[u8], s: &[u8], list: u8, i: usize) -> Statement
     requires { (list ≡ 0 → old_at s.now (i + 1) ≤ length s.now) × (length s.now ≤ longest_bundle) × (list ≡ 0 → roll_held s.now i ≡ true) }
     ensures { result ≡ spoken head table.now s.now list i }
 {
-    let identity = head.identity;
-    let own = head.own;
-    let previous = head.previous;
     if list == OLD {
         let roll = old_digest(s, i);
-        return handover_statement(Kind::Finalise, identity, previous, own, roll);
+        return handover_statement(Kind::Finalise, head.identity, head.previous, head.own, roll);
     }
-    let roll = roll_digest(head.count as usize, table);
-    handover_statement(Kind::Initialise, identity, own, previous, roll)
+    let roll = roll_digest(usize::from(head.count), table);
+    handover_statement(
+        Kind::Initialise,
+        head.identity,
+        head.own,
+        head.previous,
+        roll,
+    )
 }
 
 // The statement that the marks of an entry of a list speak of.
@@ -89,13 +90,14 @@ pub fn bytes_to_check(
     list: u8,
     entry: u64,
     area: &mut [u8],
-) -> Told
-    ensures { outcome result table.now area.new ≡ checking (record { head = head; table = table.now; area = area.old }) previous.now own.now s.now list entry }
+) -> Result<Done, Refusal>
+    ensures { outcome (told head result) table.now area.new ≡ checking (record { head = head; table = table.now; area = area.old }) previous.now own.now s.now list entry }
 {
-    let n = refusal_of_check(head, table, area, previous, own, s, list, entry);
-    if n != refusals::ACCEPTED {
-        return refusal(n, 0, head);
-    }
+    check_entry(head, table, area, previous, own, s, list, entry)?;
     give(spoken(head, table, s, list, entry as usize), area);
-    acceptance(HANDOVER_SIZE, head)
+    Ok(Done {
+        written: HANDOVER_SIZE,
+        repeat: false,
+        head,
+    })
 }

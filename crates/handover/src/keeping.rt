@@ -11,13 +11,7 @@ pub fn is_kept(kept: bool, there: bool, s: &[u8], at: usize) -> bool
     requires { at + 2 ≤ length s.now }
     ensures { result ≡ (kept || (there && eqb (two_byte s.now at) 0)) }
 {
-    if kept {
-        return true;
-    }
-    if there {
-        return added_at(s, at) == 0;
-    }
-    false
+    kept || there && added_at(s, at) == 0
 }
 
 // Whether each row is flagged.
@@ -25,12 +19,5 @@ pub fn all_kept(kept: &[bool], rows: usize) -> bool
     requires { rows ≤ length kept.now }
     ensures { result ≡ each (flag kept.now) rows }
 {
-    let mut r = 0;
-    while r < rows {
-        if !kept[r] {
-            return false;
-        }
-        r += 1;
-    }
-    true
+    kept[..rows].iter().all(|k| *k)
 }

@@ -1,23 +1,26 @@
-use mathlib.Core.Path.{ap, ◌∙◌}
+use mathlib.Core.Path.{refl, sym, ap}
+use mathlib.Core.Bool.{false}
 use mathlib.Core.List.{[]}
-use borrow.Author.Tests.{eq-eqb, ne_eqb}
 use Rattle.octets.specs.Strings.{put}
 use Rattle.rules.specs.declared.Head.{Head}
-use Rattle.rules.specs.declared.Told.{Told}
-use Rattle.rules.specs.Outcomes.{accepting, outcome, refused, given, unless}
+use Rattle.rules.specs.Outcomes.{Lent}
 use Rattle.rules.specs.Activate.{activating}
+use Rattle.rules.proofs.Tolds.{refused_alone, done_told, handed_on}
+use Rattle.handover.proofs.Cascades.{activate_other}
 use Rattle.handover.proofs.activating.activate.Goals as goal
 
-pub returns-then-n-ne-ACCEPTED : goal.returns-then-n-ne-ACCEPTED
-unfolding refused unless activating
-returns-then-n-ne-ACCEPTED c =
+pub returns-in_err-check_activate : goal.returns-in_err-check_activate
+unfolding activating
+returns-in_err-check_activate c =
     let a = c.args in
-    rw (← c.refusal_of_activate-n.ensures, ne_eqb _ _ c.if-n-ne-ACCEPTED.true) (ap (λ (r : Told). outcome r a.table.now []) c.refusal.ensures)
+    let k : Lent = record { head = a.head; table = a.table.now; area = [] } in
+    rw (handed_on _ _ c.from_residual.ensures.1)
+    (refused_alone k _ _ 0 _ c.in_err-check_activate.ensures (activate_other k a.previous.now a.own.now a.s.now))
 
 pub returns : goal.returns
-unfolding put given unless activating
+unfolding put activating
 returns c =
     let a = c.args in
-    rw (← c.refusal_of_activate-n.ensures, eq-eqb _ _ c.if-n-ne-ACCEPTED.false)
-    (ap (λ (r : Told). outcome r a.table.now [])
-    (c.acceptance.ensures ∙ ap (λ (h : Head). record { answer = accepting 0; head = h }) c.acting.ensures))
+    let k : Lent = record { head = a.head; table = a.table.now; area = [] } in
+    done_told k _ _ 0 [] _ _ _ _ (sym c.in_ok-check_activate.ensures)
+    (ap (λ (h : Head). record { written = 0; repeat = false; head = h }) c.acting.ensures) refl refl

@@ -1,7 +1,7 @@
-use mathlib.Core.Path.{◌≡◌, sym, ap, ◌∙◌}
-use mathlib.Core.Bool.{true}
+use mathlib.Core.Path.{◌≡◌, refl, sym, ap, ◌∙◌}
+use mathlib.Core.Bool.{true, false}
+use Prim.Native.Nat.{ℕ}
 use native.Mathlib.Omega.{arith}
-use borrow.Author.Tests.{eq-eqb, ne_eqb}
 use lib.ListN.{length}
 use Rattle.rows.proofs.Tables.{each_of}
 use Rattle.statement.specs.declared.Statement.{Statement}
@@ -9,27 +9,29 @@ use Rattle.statement.specs.Kinds.{size, handover_size}
 use Rattle.statement.specs.Contents.{statement_written, statement_fits}
 use Rattle.statement.proofs.Records.{fits_kind, written_length}
 use Rattle.statement.proofs.Types.{arrays}
-use Rattle.rules.specs.declared.Told.{Told}
-use Rattle.rules.specs.Outcomes.{Lent, outcome, refused, given, unless}
+use Rattle.rules.specs.Outcomes.{Lent}
+use Rattle.rules.proofs.Tolds.{refused_alone, done_told, handed_on}
 use Rattle.rules.specs.Bundle.{old_count}
 use Rattle.rules.specs.Check.{spoken_of, checking}
 use Rattle.handover.specs.Asked.{roll_held}
-use Rattle.handover.proofs.Cascades.{shown, listed, laid}
+use Rattle.handover.proofs.Cascades.{shown, listed, laid, check_other}
 use Rattle.handover.proofs.Places.{old_lies}
 use Rattle.handover.proofs.Statements.{spoken_fits, spoken-size, spoken_written, old_listed}
 use Rattle.handover.proofs.checking.bytes_to_check.Goals as goal
 
-pub returns-then-n-ne-ACCEPTED : goal.returns-then-n-ne-ACCEPTED
-unfolding refused unless checking
-returns-then-n-ne-ACCEPTED c =
+pub returns-in_err-check_entry : goal.returns-in_err-check_entry
+unfolding checking
+returns-in_err-check_entry c =
     let a = c.args in
-    rw (← c.refusal_of_check-n.ensures, ne_eqb _ _ c.if-n-ne-ACCEPTED.true) (ap (λ (r : Told). outcome r a.table.now a.area.now) c.refusal.ensures)
+    let k : Lent = record { head = a.head; table = a.table.now; area = a.area.now } in
+    rw (handed_on _ _ c.from_residual.ensures.1)
+    (refused_alone k _ _ 0 _ c.in_err-check_entry.ensures (check_other k a.previous.now a.own.now a.s.now a.list a.entry))
 
 pub spoken-requires : goal.spoken-requires
 spoken-requires c =
     let a = c.args in
     let k : Lent = record { head = a.head; table = a.table.now; area = a.area.now } in
-    let all = listed handover_size k a.previous.now a.own.now a.s.now a.list a.entry (sym c.refusal_of_check-n.ensures ∙ c.if-n-ne-ACCEPTED.false) in
+    let all = listed handover_size k a.previous.now a.own.now a.s.now a.list a.entry (sym c.in_ok-check_entry.ensures) in
     let seen = (shown handover_size k a.previous.now a.own.now a.s.now all.0).0 in
     let old = old_listed a.s.now a.list a.entry in (
       λ e. old_lies (laid seen) a.entry (old e all.1),
@@ -41,7 +43,7 @@ pub give-requires : goal.give-requires
 give-requires c =
     let a = c.args in
     let k : Lent = record { head = a.head; table = a.table.now; area = a.area.now } in
-    let all = listed handover_size k a.previous.now a.own.now a.s.now a.list a.entry (sym c.refusal_of_check-n.ensures ∙ c.if-n-ne-ACCEPTED.false) in
+    let all = listed handover_size k a.previous.now a.own.now a.s.now a.list a.entry (sym c.in_ok-check_entry.ensures) in
     let e = c.spoken.ensures in
     let kind = ap (λ (v : Statement). size v.kind) e in (
       ap statement_fits e ∙ spoken_fits k a.s.now a.list a.entry,
@@ -49,7 +51,7 @@ give-requires c =
     )
 
 pub returns : goal.returns
-unfolding given unless checking
+unfolding checking
 returns c =
     let a = c.args in
     let k : Lent = record { head = a.head; table = a.table.now; area = a.area.now } in
@@ -59,11 +61,6 @@ returns c =
     let long : length (statement_written v.result) ≡ handover_size = written_length v.result (arrays v.result _ v.type_inv) (fits_kind v.result fits) ∙ kind in
     let bytes : statement_written v.result ≡ spoken_of k a.s.now a.list a.entry =
     ap statement_written v.ensures ∙ spoken_written k a.s.now a.list a.entry in
-    rw (
-      ← c.refusal_of_check-n.ensures,
-      eq-eqb _ _ c.if-n-ne-ACCEPTED.false,
-      ← bytes,
-      long,
-      c.acceptance.ensures,
-      c.give.ensures,
-    )
+    rw (← bytes)
+    (done_told k _ _ 0 (statement_written v.result) _ _ _ _ (sym c.in_ok-check_entry.ensures)
+    (ap (λ (n : ℕ). record { written = n; repeat = false; head = a.head }) (sym long)) refl c.give.ensures)

@@ -1,10 +1,6 @@
-use native.Mathlib.Omega.{arith}
 use borrow.Author.Tests.{eq-eqb, ne_eqb}
 use Rattle.rules.specs.Check.{entries_of}
 use Rattle.handover.proofs.checking.entries_of.Goals as goal
-
-pub old_count-requires : goal.old_count-requires
-old_count-requires c = omega (arith, c.requires.0)
 
 pub returns-then-list-eq-OLD : goal.returns-then-list-eq-OLD
 unfolding entries_of

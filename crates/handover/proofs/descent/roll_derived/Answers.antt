@@ -1,5 +1,5 @@
 use mathlib.Core.Path.{◌≡◌, refl, sym, ap, ap₂, ◌∙◌}
-use mathlib.Core.Bool.{Bool, true, ◌&&◌, ◌||◌, true≢false}
+use mathlib.Core.Bool.{Bool, ◌&&◌, ◌||◌, true≢false}
 use mathlib.Core.List.{List}
 use Prim.Native.Nat.{ℕ, ◌≤◌, ◌<◌, ◌+◌, ◌*◌, ◌/◌}
 use native.Mathlib.Nat.{add-zero}

@@ -1,31 +1,13 @@
-use mathlib.Core.Path.{◌≡◌, refl, sym}
-use mathlib.Core.Bool.{true}
+use mathlib.Core.Path.{◌∙◌}
 use native.Mathlib.Omega.{arith}
-use Rattle.rows.specs.Table.{each}
-use Rattle.rows.proofs.Tables.{each_next, each_fails}
-use Rattle.handover.specs.Asked.{flag}
+use lib.ListN.{take}
+use Rattle.std.proofs.Common.{rules, tests}
+use Rattle.std.proofs.lemmas.Iterator.{YieldsList-from_slice}
+use Rattle.std.proofs.lemmas.Iterator.Search.{all_from_yields_List}
+use Rattle.handover.proofs.Kept.{flags_all}
 use Rattle.handover.proofs.keeping.all_kept.Goals as goal
-
-pub loop-r-init : goal.loop-r-init
-unfolding each
-loop-r-init c = (omega arith, refl)
-
-pub bounds-kept-r : goal.bounds-kept-r
-bounds-kept-r c = omega (arith, c.requires)
-
-pub returns-then-not-kept-r : goal.returns-then-not-kept-r
-returns-then-not-kept-r c =
-    let a = c.args in
-    sym (each_fails (flag a.kept.now) a.rows c.loop-r.r (omega arith) c.if-not-kept-r.true)
-
-pub loop-r-preserved : goal.loop-r-preserved
-loop-r-preserved c =
-    let a = c.args in
-    let l = c.loop-r in
-    (omega arith, each_next (flag a.kept.now) l.r l.invariant.1 c.if-not-kept-r.false)
 
 pub returns : goal.returns
 returns c =
-    let l = c.loop-r in
-    let e : l.r ≡ c.args.rows = omega arith in
-    sym (rw e at l.invariant.1)
+    all_from_yields_List (λ k. k) _ _ c.all.result c.all.ensures.ran (YieldsList-from_slice (take c.args.rows c.args.kept.now) (cc)) (λ x b q k. search (rules, tests))
+    ∙ flags_all c.args.kept.now c.args.rows (omega (arith, c.requires))
