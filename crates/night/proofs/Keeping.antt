@@ -5,12 +5,11 @@ use mathlib.Core.List.{List, []}
 use Prim.Native.Nat.{ℕ, zero, suc, ◌+◌, ◌≤◌, ◌<◌}
 use native.Mathlib.Numerals.{add-one}
 use native.Mathlib.Omega.{arith}
-use borrow.Author.Tests.{ltb-true, ltb-false, eqb-true, eqb-false}
-use lib.ListN.{length, get_or, take, drop, set, replicate, length-set, length-take, length-replicate}
+use borrow.Author.Tests.{ltb-true, ltb-false, eqb-true}
+use lib.ListN.{length, get_or, take, drop, set, length-set, length-replicate}
 use lib.Seq.{take-set-lt, take-suc-set, get_or-take, take-take, length-take-le}
 use lib.Dec.{eqb, ltb}
-use Rattle.octets.specs.Layouts.{holds}
-use Rattle.rack.specs.Racks.{most, rack_bytes, rack_layout, rack_digest}
+use Rattle.rack.specs.Racks.{most, rack_bytes, rack_digest}
 use Rattle.rack.proofs.RackTrips.{rack_length}
 use Rattle.statement.specs.Cut.{no_label}
 use Rattle.checks.specs.Check.{block_at}

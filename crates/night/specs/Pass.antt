@@ -1,7 +1,7 @@
 -- The pass over a file's blocks in turn. 02, M-103: "2 is a receipt .., judged under the nearest undamaged rack before it, and refused if there is none"; "From
 -- the 64th label on, receipts are counted only as `over`. Blocks, the file's length over 512 rounded up, is the sum of racks, accepted, refused, over and
 -- damaged."
-use Rattle.std.specs.Prelude.{◌≡◌, true, cond, List, ℕ, zero, suc, ◌+◌, ◌*◌, ◌/◌, ◌≤◌, length, get_or, take, drop, set, replicate, eqb, ltb}
+use Rattle.std.specs.Prelude.{◌≡◌, true, cond, List, ℕ, zero, suc, ◌+◌, ◌/◌, ◌≤◌, length, get_or, take, drop, set, replicate, eqb, ltb}
 use Rattle.octets.specs.Layouts.{holds}
 use Rattle.rack.specs.Racks.{most, rack_bytes, rack_layout, rack_digest}
 use Rattle.statement.specs.Cut.{no_digest, no_label}
