@@ -1,5 +1,5 @@
 -- Laws of texts put one behind the other: numbers, labels, lines. Assumes nothing.
-use mathlib.Core.Path.{◌≡◌, refl, sym, ap, ap₂, ◌∙◌}
+use mathlib.Core.Path.{◌≡◌, refl, sym, ap, ◌∙◌}
 use mathlib.Core.Bool.{Bool, true, false, cond}
 use mathlib.Core.List.{List, [], ◌∷◌, ◌++◌, append_assoc, append-nil}
 use Prim.Native.Nat.{ℕ, zero, suc, ◌+◌, ◌-◌, ◌*◌, ◌/◌, ◌%◌, ◌^◌, ◌≤◌, ◌<◌}
@@ -9,11 +9,11 @@ use native.Mathlib.Numerals.{add-one}
 use native.Mathlib.Omega.{arith}
 use borrow.Author.Tests.{lt-ltb, le-ltb}
 use lib.ListN.{length, get_or, take, set, length-append, length-set}
-use lib.Seq.{take-suc, take-suc-set, take-set-le}
+use lib.Seq.{take-suc, take-suc-set}
 use lib.Dec.{eqb, ltb, lit<}
 use Rattle.io.specs.Digits.{hex_digit_ascii, last_digits}
 use Rattle.octets.specs.Strings.{put}
-use Rattle.octets.proofs.Puts.{put-put, put-length}
+use Rattle.octets.proofs.Puts.{put-put}
 use Rattle.octets.proofs.Fronts.{put_none}
 use Rattle.night.specs.declared.Line.{Line}
 use Rattle.night.specs.declared.Totals.{Totals}

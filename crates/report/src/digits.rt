@@ -14,30 +14,14 @@ fn digit(d: u8) -> u8
     if d < 10 { 48 + d } else { 87 + d }
 }
 
-// The two digits of a byte.
-fn high_digit(b: u8) -> u8
-    ensures { result ≡ hex_digit_ascii (b / 16) }
-{
-    digit(b / 16)
-}
-
-fn low_digit(b: u8) -> u8
-    ensures { result ≡ hex_digit_ascii (b % 16) }
-{
-    digit(b % 16)
-}
-
 // A label in lower-case hex.
 pub fn hex_text(label: [u8; LABEL]) -> [u8; 2 * LABEL]
     ensures { result ≡ hex_of label }
 {
     let mut text = [0u8; 2 * LABEL];
-    let mut i = 0;
-    while i < LABEL {
-        let b = label[i];
-        text[2 * i] = high_digit(b);
-        text[2 * i + 1] = low_digit(b);
-        i += 1;
+    for (i, b) in label.iter().enumerate() {
+        text[2 * i] = digit(*b / 16);
+        text[2 * i + 1] = digit(*b % 16);
     }
     text
 }

@@ -5,7 +5,7 @@ ghost use Rattle.report.specs.Text.{decimal_of, Placed};
 ghost use Rattle.report.specs.Printed.{newline, spaced, top_text, line_text, lines_text, over_name, damaged_name, totals_text, printed, most_text};
 
 use crate::digits::{hex_text, put_named, put_text, put_two};
-use night::{Line, MOST_LABELS, Night, Totals};
+use night::{Line, Night, Totals};
 
 // The highest accepted height, or `-` where none was accepted.
 fn put_top(area: &mut [u8], at: usize, accepted: u64, top: u64) -> usize
@@ -41,23 +41,19 @@ fn put_line(area: &mut [u8], at: usize, line: Line) -> usize
     ensures placed { Placed result at area.old area.new (line_text line) }
     ensures upper_bound { result ≤ at + 96 }
 {
-    let label = line.label;
-    let hex = hex_text(label);
-    let behind = put_text(area, at, &hex);
+    let behind = put_text(area, at, &hex_text(line.label));
     put_counts(area, behind, line)
 }
 
-// The first lines, in their order.
-fn put_lines(area: &mut [u8], at: usize, lines: [Line; MOST_LABELS], known: usize) -> usize
-    requires { (known ≤ most_labels) × (at + 96 * known + 8 ≤ length area.old) }
-    ensures placed { Placed result at area.old area.new (lines_text (take known lines)) }
-    ensures upper_bound { result ≤ at + 96 * known }
+// Lines, in their order.
+fn put_lines(area: &mut [u8], at: usize, lines: &[Line]) -> usize
+    requires { at + 96 * length lines.now + 8 ≤ length area.old }
+    ensures placed { Placed result at area.old area.new (lines_text lines.now) }
+    ensures upper_bound { result ≤ at + 96 * length lines.now }
 {
     let mut end = at;
-    let mut i = 0;
-    while i < known {
-        end = put_line(area, end, lines[i]);
-        i += 1;
+    for line in lines {
+        end = put_line(area, end, *line);
     }
     end
 }
@@ -94,21 +90,19 @@ fn put_totals(area: &mut [u8], at: usize, totals: Totals) -> usize
 }
 
 // The lines and the totals.
-fn put_body(area: &mut [u8], at: usize, night: Night) -> usize
-    requires { (night.known ≤ most_labels) × (at + 6173 ≤ length area.old) }
-    ensures placed { Placed result at area.old area.new (lines_text (take night.known night.lines) ++ totals_text night.totals) }
+fn put_body(area: &mut [u8], at: usize, night: &Night) -> usize
+    requires { (night.now.known ≤ most_labels) × (at + 6173 ≤ length area.old) }
+    ensures placed { Placed result at area.old area.new (lines_text (take night.now.known night.now.lines) ++ totals_text night.now.totals) }
     ensures upper_bound { result ≤ at + 6173 }
 {
-    let lines = night.lines;
-    let totals = night.totals;
-    let behind = put_lines(area, at, lines, night.known);
-    put_totals(area, behind, totals)
+    let behind = put_lines(area, at, &night.lines[..night.known]);
+    put_totals(area, behind, night.totals)
 }
 
 // The whole report at the front of an area; answers how many bytes it has.
-pub fn print(night: Night, area: &mut [u8]) -> usize
-    requires { (night.known ≤ most_labels) × (most_text ≤ length area.old) }
-    ensures placed { Placed result 0 area.old area.new (printed night) }
+pub fn print(night: &Night, area: &mut [u8]) -> usize
+    requires { (night.now.known ≤ most_labels) × (most_text ≤ length area.old) }
+    ensures placed { Placed result 0 area.old area.new (printed night.now) }
     ensures upper_bound { result ≤ most_text }
 {
     let behind = put_text(area, 0, b"label accepted refused top\n");

@@ -9,16 +9,15 @@ use Rattle.report.proofs.digits.hex_text.Goals as goal
 
 pub loop-i-init : goal.loop-i-init
 unfolding hex_of
-loop-i-init c = (omega arith, refl, refl)
+loop-i-init c = (refl, refl)
 
 pub loop-i-preserved : goal.loop-i-preserved
 loop-i-preserved c =
     let l = c.loop-i in
     let a = c.args in
     let n : length a.label ≡ 16 = omega (arith, c.well_formed.0) in (
-      omega arith,
-      simp length-set l.invariant.1,
-      hex_stored l.text a.label l.i c.high_digit.result c.low_digit.result (omega arith) (omega arith) l.invariant.2 c.high_digit.ensures c.low_digit.ensures,
+      simp length-set l.invariant.0,
+      hex_stored l.text a.label l.i c.digit.result c.digit-in-loop-i.result (omega arith) (omega arith) l.invariant.1 c.digit.ensures c.digit-in-loop-i.ensures,
     )
 
 pub returns : goal.returns
@@ -26,4 +25,4 @@ returns c =
     let l = c.loop-i in
     let a = c.args in
     let n : length a.label ≡ 16 = omega (arith, c.well_formed.0) in
-    sym (take_all (2 * l.i) l.text (omega arith)) ∙ l.invariant.2 ∙ ap hex_of (take_all l.i a.label (omega arith))
+    sym (take_all (2 * l.i) l.text (omega arith)) ∙ l.invariant.1 ∙ ap hex_of (take_all l.i a.label (omega arith))

@@ -20,7 +20,7 @@ pub returns : goal.returns
 unfolding printed
 returns c =
     let o = c in
-    let n = o.args.night in
+    let n = o.args.night.now in
     let t = c.put_text-behind in
     let b = c.put_body in
     record {

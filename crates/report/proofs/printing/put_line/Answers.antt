@@ -13,7 +13,7 @@ unfolding line_text
 returns c =
     let o = c in
     let l = o.args.line in
-    let h = c.hex_text-hex in
+    let h = c.hex_text in
     let n : length h.result ≡ 32 = omega (arith, h.type_inv) in
     let a = spaced l.accepted ++ spaced l.refused in
     let b = top_text l.accepted l.top ++ newline in
