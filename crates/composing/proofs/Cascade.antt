@@ -1,12 +1,12 @@
 -- Laws of the maker's tests in their order: which one decides, and what the call has then. Assumes nothing.
-use mathlib.Core.Path.{◌≡◌, refl, sym, ap, ap₂, ◌∙◌}
-use mathlib.Core.Bool.{Bool, true, false, not, cond, ◌&&◌, ◌||◌}
+use mathlib.Core.Path.{◌≡◌, refl, sym, ap, ◌∙◌}
+use mathlib.Core.Bool.{Bool, true, false, not, ◌||◌}
 use mathlib.Core.List.{List, [], ◌∷◌, ◌++◌}
-use Prim.Native.Nat.{ℕ, ◌+◌, ◌*◌, ◌<◌, ◌≤◌}
+use Prim.Native.Nat.{ℕ, ◌*◌, ◌<◌, ◌≤◌}
 use native.Mathlib.Omega.{arith}
 use borrow.Author.Tests.{lt-ltb, le-ltb, eqb-false, ne_eqb, not-false}
 use lib.ListN.{length}
-use lib.Dec.{eqb, ltb}
+use lib.Dec.{ltb}
 use Rattle.refusals.specs.{accepted, area_too_short, record_not_sound, rack_broken, list_broken, roll_broken, not_leading, bundle_too_large}
 use Rattle.refusals.specs.Order.{Test, ◌⇒◌, first}
 use Rattle.refusals.proofs.Orders.{numbered, passes, stops, goes_on, none_refuses}
@@ -26,7 +26,7 @@ use Rattle.entries.specs.Asked.{roll_held, attended_tests}
 use Rattle.entries.proofs.Attended.{attended_numbered}
 use Rattle.maker.specs.Rolls.{row_count, roll_made}
 use Rattle.maker.specs.Lists.{all_led, bundle_made}
-use Rattle.maker.specs.Making.{entries_tests, too_large, blocks_made, making_tests, Composed, composing}
+use Rattle.maker.specs.Making.{entries_tests, too_large, blocks_made, making_tests, composing}
 use Rattle.maker.proofs.RollsMade.{made_fits}
 use Rattle.gathering.specs.Old.{Given}
 

@@ -1,12 +1,11 @@
 -- Where all labels are led, the store answers what each list needs. Assumes nothing.
-use mathlib.Core.Path.{◌≡◌, refl, sym, ap, ◌∙◌}
-use mathlib.Core.Bool.{Bool, true, false, ◌&&◌}
+use mathlib.Core.Path.{◌≡◌}
+use mathlib.Core.Bool.{true}
 use mathlib.Core.List.{List}
-use Prim.Native.Nat.{ℕ, suc, ◌+◌, ◌-◌, ◌<◌, ◌≤◌}
+use Prim.Native.Nat.{ℕ, suc, ◌+◌, ◌<◌, ◌≤◌}
 use native.Mathlib.Omega.{arith}
 use Rattle.octets.proofs.RoundTrips.{and_left}
 use Rattle.octets.specs.Strings.{same}
-use Rattle.rows.specs.Sizes.{most_rows, top_height}
 use Rattle.rows.specs.Row.{label_of}
 use Rattle.rows.specs.Table.{each}
 use Rattle.rows.proofs.Tables.{each_of}
@@ -17,9 +16,8 @@ use Rattle.maker.specs.Lists.{answered, needed, listed, leads, led, roll_led, al
 use Rattle.maker.proofs.OldLabels.{RollsHold, OldLabel, number_old, row_some}
 use Rattle.maker.proofs.Tops.{highest_most, highest_low}
 use Rattle.maker.proofs.RollsMade.{made_label}
-use Rattle.gathering.specs.Old.{row_of}
 use Rattle.composing.specs.Sizes.{need_of}
-use Rattle.composing.specs.Written.{RowFed, AllFed}
+use Rattle.composing.specs.Written.{AllFed}
 use Rattle.composing.proofs.Tabled.{row_height, need_is}
 
 module _ (e store : List ℕ) (held : RollsHold e) where

@@ -1,7 +1,7 @@
 -- Laws of the lists put one behind the other. Assumes nothing.
-use mathlib.Core.Path.{◌≡◌, refl, sym, ap, ap₂, ◌∙◌}
+use mathlib.Core.Path.{◌≡◌, sym, ap, ◌∙◌}
 use mathlib.Core.List.{List, [], ◌∷◌, ◌++◌}
-use Prim.Native.Nat.{ℕ, zero, suc, ◌+◌, ◌-◌, ◌*◌, ◌/◌, ◌%◌, ◌^◌, ◌<◌, ◌≤◌}
+use Prim.Native.Nat.{ℕ, zero, suc, ◌+◌, ◌*◌, ◌/◌, ◌%◌, ◌^◌, ◌<◌, ◌≤◌}
 use native.Mathlib.Decide.{dec_lt}
 use native.Mathlib.Numerals.{add-one}
 use native.Mathlib.Omega.{arith}
@@ -15,9 +15,9 @@ use Rattle.rules.specs.Bundle.{most_added, old_roll}
 use Rattle.maker.specs.Lists.{entry_digest, listed}
 use Rattle.maker.proofs.Listings.{entry_long, listed_long}
 use Rattle.gathering.specs.Old.{row_of}
-use Rattle.composing.specs.Sizes.{need_of, lists_size}
+use Rattle.composing.specs.Sizes.{need_of}
 use Rattle.composing.specs.Written.{lists_by, lists_of}
-use Rattle.composing.proofs.Lengths.{list_long, lists_long}
+use Rattle.composing.proofs.Lengths.{list_long}
 
 -- the count of a list
 pub count_bytes : (n : ℕ) → n ≤ most_added → 0 ∷ n ∷ [] ≡ bytes_of 2 n

@@ -1,12 +1,12 @@
 -- The new roll's table in the place of its labels: what is needed and listed by it is what the rule says. Assumes nothing.
-use mathlib.Core.Path.{◌≡◌, refl, sym, ap, ap₂, ◌∙◌}
-use mathlib.Core.List.{List, [], ◌++◌, append_assoc}
-use Prim.Native.Nat.{ℕ, zero, suc, ◌+◌, ◌<◌, ◌≤◌}
+use mathlib.Core.Path.{◌≡◌, refl, ap, ap₂}
+use mathlib.Core.List.{List, ◌++◌}
+use Prim.Native.Nat.{ℕ, zero, suc, ◌<◌, ◌≤◌}
 use native.Mathlib.Omega.{arith}
 use Rattle.octets.specs.Numbers.{bytes_of}
-use Rattle.rows.specs.Row.{label_of, height_of}
+use Rattle.rows.specs.Row.{label_of}
 use Rattle.rules.specs.Bundle.{old_count, old_roll}
-use Rattle.maker.specs.Rolls.{old_height, highest, label_number, row_count, roll_made}
+use Rattle.maker.specs.Rolls.{old_height, label_number, row_count, roll_made}
 use Rattle.maker.specs.Lists.{needed, listed, list_made, lists_for, lists_made, bundle_made}
 use Rattle.maker.proofs.OldLabels.{RollsHold}
 use Rattle.maker.proofs.RollsMade.{made_label, made_height}

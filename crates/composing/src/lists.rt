@@ -25,11 +25,9 @@ fn put_digests(store: &[u8], label: [u8; LABEL], height: u64, n: usize, area: &m
         × (height + n ≤ top_height) × (at + 32 * n ≤ length area.old) }
     ensures { area.new ≡ put area.old at (listed store.now label height n) }
 {
-    let mut d = 0;
-    while d < n {
+    for d in 0..n {
         let digest = digest_for(store, label, height + (d as u64 + 1));
         copy_at(area, at + DIGEST * d, &digest);
-        d += 1;
     }
 }
 
@@ -59,14 +57,12 @@ fn put_lists(
         × (area.new ≡ put area.old at (lists_by roll.now store.now table.now count)) }
 {
     let mut place = at;
-    let mut r = 0;
-    while r < count {
+    for r in 0..count {
         let label = label_at(table, r);
         let old = old_row(roll, label);
         let n = need(old.height, table, r);
         put_list(store, label, old.height, n, area, place);
         place += LIST_HEAD + DIGEST * n;
-        r += 1;
     }
     place
 }
@@ -81,13 +77,10 @@ pub fn put_bundle(e: &[u8], store: &[u8], table: &[u8], count: usize, area: &mut
         (e.now ++ lists_of e.now store.now table.now count (old_count e.now)) }
 {
     copy_at(area, 0, e);
-    let entries = old_count(e);
     let mut place = e.len();
-    let mut at: usize = 1;
-    let mut i = 0;
-    while i < entries {
+    let mut at = 1;
+    for _ in 0..old_count(e) {
         place = put_lists(roll_at(e, at), store, table, count, area, place);
         at = next_old(e, at);
-        i += 1;
     }
 }

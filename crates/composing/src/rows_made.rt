@@ -8,7 +8,7 @@ ghost use Rattle.gathering.specs.Old.{Given};
 
 use gathering::{highest, next_label};
 use maker::Highest;
-use octets::{clear, copy_at, is_zero, put_number};
+use octets::{copy_at, is_zero, put_number};
 use rows::{LABEL, MOST, ROW, TAIL};
 
 // Puts a row into its place.
@@ -17,9 +17,8 @@ fn put_row(table: &mut [u8], r: usize, label: [u8; LABEL], row: Highest)
     ensures { table.new ≡ put table.old (row_bytes * r) (label ++ row.tail ++ bytes_of 8 row.height) }
 {
     let at = ROW * r;
-    let tail = row.tail;
     copy_at(table, at, &label);
-    copy_at(table, at + LABEL, &tail);
+    copy_at(table, at + LABEL, &row.tail);
     put_number(table, at + LABEL + TAIL, row.height);
 }
 
@@ -28,19 +27,17 @@ pub fn put_rows(e: &[u8], table: &mut [u8]) -> usize
     requires { Given e.now × (length table.old ≡ table_bytes) }
     ensures { (result ≡ row_count e.now) × (row_count e.now ≤ most_rows → table.new ≡ (roll_made e.now).rows) }
 {
-    clear(table);
+    table.fill(0);
     let mut last = [0u8; LABEL];
-    let mut r = 0;
-    while r < MOST {
+    for r in 0..MOST {
         let label = next_label(e, last, r);
         if is_zero(&label) {
             return r;
         }
         put_row(table, r, label, highest(e, label));
         last = label;
-        r += 1;
     }
-    if is_zero(&next_label(e, last, r)) {
+    if is_zero(&next_label(e, last, MOST)) {
         return MOST;
     }
     MOST + 1

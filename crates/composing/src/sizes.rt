@@ -17,11 +17,7 @@ pub fn need(old: u64, table: &[u8], r: usize) -> usize
     requires { (r < most_rows) × (length table.now ≡ table_bytes) }
     ensures { result ≡ height_of table.now r - old }
 {
-    let top = height_at(table, r);
-    if top < old {
-        return 0;
-    }
-    (top - old) as usize
+    height_at(table, r).saturating_sub(old) as usize
 }
 
 // The bytes of an old roll's lists, or more than a bundle has where a count passes 64.
@@ -29,16 +25,14 @@ fn roll_size(roll: &[u8], table: &[u8], count: usize) -> usize
     requires { (holds roll_layout roll.now ≡ true) × (count ≤ most_rows) × (length table.now ≡ table_bytes) }
     ensures { (result ≡ roll_size roll.now table.now count) × (result ≤ 130000) }
 {
-    let mut size: usize = 0;
-    let mut r = 0;
-    while r < count {
+    let mut size = 0;
+    for r in 0..count {
         let old = old_row(roll, label_at(table, r));
         let n = need(old.height, table, r);
         if MOST_ADDED < n {
             return LONGEST + 1;
         }
         size += LIST_HEAD + DIGEST * n;
-        r += 1;
     }
     size
 }
@@ -48,14 +42,11 @@ pub fn whole_size(e: &[u8], table: &[u8], count: usize) -> usize
     requires { Given e.now × (count ≤ most_rows) × (length table.now ≡ table_bytes) }
     ensures { result ≡ whole_size e.now table.now count (old_count e.now) }
 {
-    let entries = old_count(e);
     let mut size = e.len();
-    let mut at: usize = 1;
-    let mut i = 0;
-    while i < entries {
+    let mut at = 1;
+    for _ in 0..old_count(e) {
         size += roll_size(roll_at(e, at), table, count);
         at = next_old(e, at);
-        i += 1;
     }
     size
 }

@@ -1,6 +1,10 @@
 // What the maker of handover bundles finds and answers. Its rule is in specs/.
 #![tactic(auto)]
 
+ghost use Rattle.std.specs.Prelude.{◌≡◌};
+ghost use Rattle.refusals.specs.Refused.{refusal_number};
+
+use refusals::Refusal;
 use rows::TAIL;
 
 // Height and tail of the highest old row of a label; zeros for a label that no old roll has.
@@ -17,4 +21,16 @@ pub struct Made {
     pub number: u32,
     pub roll: usize,
     pub bundle: usize,
+}
+
+impl From<Refusal> for Made {
+    ghost from_gives = { λ refusal made. made ≡ record { number = refusal_number refusal; roll = 0; bundle = 0 } };
+
+    fn from(refusal: Refusal) -> Made {
+        Made {
+            number: refusal.number(),
+            roll: 0,
+            bundle: 0,
+        }
+    }
 }

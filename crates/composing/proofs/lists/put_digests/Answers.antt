@@ -14,7 +14,7 @@ use Rattle.composing.proofs.lists.put_digests.Goals as goal
 pub loop-d-init : goal.loop-d-init
 loop-d-init c =
     let a = c.args in
-    (omega arith, none_put a.store.now a.label a.height a.area.now a.at)
+    none_put a.store.now a.label a.height a.area.now a.at
 
 pub overflow_add-d : goal.overflow_add-d
 overflow_add-d c = omega (arith, c.requires.2)
@@ -46,7 +46,7 @@ copy_at-requires c =
     omega (
       arith,
       c.requires.4,
-      ap length l.invariant.1
+      ap length l.invariant
           ∙ digests_long s a.label a.height a.area.now a.at l.d
           (omega (arith, c.requires.4)),
       ap length c.digest_for-digest.ensures ∙ entry_long s a.label (a.height + (l.d + 1)),
@@ -55,23 +55,20 @@ copy_at-requires c =
 pub loop-d-preserved : goal.loop-d-preserved
 loop-d-preserved c =
     let a = c.args in
-    let l = c.loop-d in (
-      omega arith,
-      c.copy_at.ensures
-          ∙ ap₂ (λ (x y : List ℕ). put x (a.at + 32 * l.d) y) l.invariant.1 c.digest_for-digest.ensures
-          ∙ digests_next a.store.now a.label a.height a.area.now a.at l.d
-          (omega (arith, c.requires.4)),
-    )
+    let l = c.loop-d in
+    c.copy_at.ensures
+    ∙ ap₂ (λ (x y : List ℕ). put x (a.at + 32 * l.d) y) l.invariant c.digest_for-digest.ensures
+    ∙ digests_next a.store.now a.label a.height a.area.now a.at l.d (omega (arith, c.requires.4))
 
 pub shape_of-area : goal.shape_of-area
 shape_of-area c =
     let a = c.args in
     let l = c.loop-d in
-    ap length l.invariant.1
+    ap length l.invariant
     ∙ digests_long a.store.now a.label a.height a.area.now a.at l.d (omega (arith, c.requires.4))
 
 pub returns : goal.returns
 returns c =
     let l = c.loop-d in
     let e : l.d ≡ c.args.n = omega arith in
-    rw e at l.invariant.1
+    rw e at l.invariant

@@ -20,7 +20,7 @@ use Rattle.composing.proofs.lists.put_lists.Goals.{After-need-n, After-old_row-o
 
 pub loop-r-init : goal.loop-r-init
 unfolding lists_by
-loop-r-init c = (omega arith, omega arith, sym (put_none c.args.area.now c.args.at))
+loop-r-init c = (omega arith, sym (put_none c.args.area.now c.args.at))
 
 pub label_at-label-requires : goal.label_at-label-requires
 label_at-label-requires c = (omega (arith, c.requires.2), c.requires.3)
@@ -63,8 +63,8 @@ room c =
     let a = c.args in
     let l = c.loop-r in
     let w = lists_within a.roll.now a.store.now a.table.now l.r a.count (omega arith) in (
-      omega (arith, l.invariant.1, needed c, w, c.requires.5),
-      ap length l.invariant.2
+      omega (arith, l.invariant.0, needed c, w, c.requires.5),
+      ap length l.invariant.1
           ∙ put-length a.area.now a.at (lists_by a.roll.now a.store.now a.table.now l.r)
           (omega (arith, w, c.requires.5)),
     )
@@ -105,10 +105,9 @@ loop-r-preserved c =
     c.old_row-old.result.height c.need-n.result ≡ list roll s t l.r =
     rw (c.label_at-label.ensures, height (goal.at.loop-r-preserved c).After-old_row-old, n) in
     let w = lists_within roll s t l.r a.count (omega arith) in (
-      omega arith,
-      omega (arith, l.invariant.1, n, next_long roll s t l.r),
+      omega (arith, l.invariant.0, n, next_long roll s t l.r),
       c.put_list.ensures ∙ ap (λ (x : List ℕ). put l.area l.place x) made
-          ∙ ap₂ (λ (x : List ℕ) (p : ℕ). put x p (list roll s t l.r)) l.invariant.2 l.invariant.1
+          ∙ ap₂ (λ (x : List ℕ) (p : ℕ). put x p (list roll s t l.r)) l.invariant.1 l.invariant.0
           ∙ put-put a.area.now a.at (lists_by roll s t l.r) (list roll s t l.r) (a.at + length (lists_by roll s t l.r)) refl
           (omega (
             arith,
@@ -124,7 +123,7 @@ shape_of-area c =
     let a = c.args in
     let l = c.loop-r in
     let e : l.r ≡ a.count = omega arith in
-    ap length l.invariant.2
+    ap length l.invariant.1
     ∙ put-length a.area.now a.at (lists_by a.roll.now a.store.now a.table.now l.r)
     (rw e (omega (arith, c.requires.5)))
 
@@ -132,4 +131,4 @@ pub returns : goal.returns
 returns c =
     let l = c.loop-r in
     let e : l.r ≡ c.args.count = omega arith in
-    (rw e at l.invariant.1, rw e at l.invariant.2)
+    (rw e at l.invariant.0, rw e at l.invariant.1)

@@ -43,11 +43,10 @@ pub loop-r-init : goal.loop-r-init
 unfolding first_place last_of
 loop-r-init c =
     let e = c.args.e.now in (
-      omega arith,
       refl,
       refl,
       none_long e,
-      c.clear.ensures
+      c.fill.ensures.after (λ y e. e)
           ∙ ap (λ (k : ℕ). replicate k 0) c.requires.1 ∙ none_filled e,
     )
 
@@ -57,8 +56,8 @@ next_label-label-requires c = c.requires.0
 pub shape_of-table-then-is_zero : goal.shape_of-table-then-is_zero
 shape_of-table-then-is_zero c =
     let l = c.loop-r in
-    long c.args.e.now l.r (omega arith) l.invariant.3
-    l.invariant.4 ∙ sym c.requires.1
+    long c.args.e.now l.r (omega arith) l.invariant.2
+    l.invariant.3 ∙ sym c.requires.1
 
 -- the label with the loop's number
 label : (c : After-next_label-label)
@@ -67,15 +66,15 @@ label : (c : After-next_label-label)
 label c =
     let e = c.args.e.now in
     let l = c.loop-r in
-    c.next_label-label.ensures ∙ ap (λ (x : List ℕ). next_of e x (old_count e)) l.invariant.1 ∙ number_next e l.r
+    c.next_label-label.ensures ∙ ap (λ (x : List ℕ). next_of e x (old_count e)) l.invariant.0 ∙ number_next e l.r
 
 pub returns-then-is_zero : goal.returns-then-is_zero
 returns-then-is_zero c =
     let e = c.args.e.now in
     let l = c.loop-r in
     let z = ap all_zero (sym (label (goal.at.returns-then-is_zero c).After-next_label-label)) ∙ sym c.is_zero.ensures ∙ c.if-is_zero.true in
-    let p = ended e l.r (omega arith) l.invariant.2 z in
-    (p, λ few. made e l.r p l.invariant.4)
+    let p = ended e l.r (omega arith) l.invariant.1 z in
+    (p, λ few. made e l.r p l.invariant.3)
 
 pub highest-requires : goal.highest-requires
 highest-requires c = c.requires.0
@@ -93,7 +92,7 @@ put_row-requires c =
     let l = c.loop-r in
     let held = c.requires.0.rolls in (
       omega arith,
-      long e l.r (omega arith) l.invariant.3 l.invariant.4,
+      long e l.r (omega arith) l.invariant.2 l.invariant.3,
       ap length (label (goal.at.put_row-requires c).After-next_label-label) ∙ number_long e held l.r (some (goal.at.put_row-requires c).Else-is_zero),
       ap (λ (h : Highest). length h.tail) c.highest.ensures ∙ highest_long e held c.next_label-label.result,
     )
@@ -110,14 +109,13 @@ loop-r-preserved c =
     let row : c.highest.result ≡ highest e (label_number e l.r) = c.highest.ensures
     ∙ ap (highest e) lab in
     let n = some (goal.at.loop-r-preserved c).Else-is_zero in (
-      omega arith,
       lab ∙ sym (last_next e l.r),
-      first_next (λ (k : ℕ). all_zero (label_number e k)) l.r l.invariant.2 n,
-      more_long e held l.r n l.invariant.3,
+      first_next (λ (k : ℕ). all_zero (label_number e k)) l.r l.invariant.1 n,
+      more_long e held l.r n l.invariant.2,
       c.put_row.ensures
           ∙ ap₂ (λ (x : List ℕ) (h : Highest). put l.table (row_bytes * l.r) (x ++ h.tail ++ bytes_of 8 h.height)) lab row
-          ∙ ap (λ (t : List ℕ). put t (row_bytes * l.r) (row_made e (label_number e l.r))) l.invariant.4
-          ∙ more_filled e held l.r n l.invariant.3 (omega arith),
+          ∙ ap (λ (t : List ℕ). put t (row_bytes * l.r) (row_made e (label_number e l.r))) l.invariant.3
+          ∙ more_filled e held l.r n l.invariant.2 (omega arith),
     )
 
 pub next_label-requires : goal.next_label-requires
@@ -126,8 +124,8 @@ next_label-requires c = c.requires.0
 pub shape_of-table-then-is_zero-2 : goal.shape_of-table-then-is_zero-2
 shape_of-table-then-is_zero-2 c =
     let l = c.loop-r in
-    long c.args.e.now l.r l.invariant.0 l.invariant.3
-    l.invariant.4 ∙ sym c.requires.1
+    long c.args.e.now l.r (omega arith) l.invariant.2
+    l.invariant.3 ∙ sym c.requires.1
 
 -- after 63 rows
 last_label : (c : After-next_label)
@@ -136,27 +134,27 @@ last_label c =
     let e = c.args.e.now in
     let l = c.loop-r in
     let k : l.r ≡ most_rows = omega arith in
-    c.next_label.ensures ∙ ap (λ (x : List ℕ). next_of e x (old_count e)) l.invariant.1 ∙ number_next e l.r ∙ ap (label_number e) k
+    c.next_label.ensures ∙ ap (λ (x : List ℕ). next_of e x (old_count e)) l.invariant.0 ∙ number_next e l.r ∙ ap (label_number e) k
 
 pub returns-then-is_zero-2 : goal.returns-then-is_zero-2
 returns-then-is_zero-2 c =
     let e = c.args.e.now in
     let l = c.loop-r in
     let k : l.r ≡ most_rows = omega arith in
-    let p = ended e most_rows (omega arith) (rw k at l.invariant.2)
+    let p = ended e most_rows (omega arith) (rw k at l.invariant.1)
     (ap all_zero (sym (last_label (goal.at.returns-then-is_zero-2 c).After-next_label)) ∙ sym c.is_zero-2.ensures ∙ c.if-is_zero-2.true) in
-    (p, λ few. made e most_rows p (rw k at l.invariant.4))
+    (p, λ few. made e most_rows p (rw k at l.invariant.3))
 
 pub shape_of-table : goal.shape_of-table
 shape_of-table c =
     let l = c.loop-r in
-    long c.args.e.now l.r l.invariant.0 l.invariant.3
-    l.invariant.4 ∙ sym c.requires.1
+    long c.args.e.now l.r (omega arith) l.invariant.2
+    l.invariant.3 ∙ sym c.requires.1
 
 pub returns : goal.returns
 returns c =
     let e = c.args.e.now in
     let l = c.loop-r in
     let k : l.r ≡ most_rows = omega arith in
-    let p = over e (rw k at l.invariant.2) (ap all_zero (sym (last_label (goal.at.returns c).After-next_label)) ∙ sym c.is_zero-2.ensures ∙ c.if-is_zero-2.false) in
+    let p = over e (rw k at l.invariant.1) (ap all_zero (sym (last_label (goal.at.returns c).After-next_label)) ∙ sym c.is_zero-2.ensures ∙ c.if-is_zero-2.false) in
     (p, λ few. absurd (omega (arith, p)))

@@ -1,5 +1,4 @@
 use mathlib.Core.Path.{◌≡◌, refl, sym, ap, ◌∙◌}
-use mathlib.Core.Bool.{true}
 use Prim.Native.Nat.{◌-◌, ◌≤◌}
 use native.Mathlib.Omega.{arith}
 use borrow.Author.Tests.{le-leb}
@@ -16,7 +15,7 @@ use Rattle.composing.proofs.sizes.roll_size.Goals.{After-need-n}
 
 pub loop-r-init : goal.loop-r-init
 unfolding each lists_size
-loop-r-init c = (omega arith, refl, refl, omega arith)
+loop-r-init c = (refl, refl, omega arith)
 
 pub label_at-requires : goal.label_at-requires
 label_at-requires c = (omega (arith, c.requires.1), c.requires.2)
@@ -55,7 +54,7 @@ overflow_add-size c = omega (arith, c.if-n-gt-MOST_ADDED.false)
 pub overflow_add-size-in-loop-r : goal.overflow_add-size-in-loop-r
 overflow_add-size-in-loop-r c =
     omega
-    (arith, c.if-n-gt-MOST_ADDED.false, c.loop-r.invariant.3, c.requires.1)
+    (arith, c.if-n-gt-MOST_ADDED.false, c.loop-r.invariant.2, c.requires.1)
 
 pub loop-r-preserved : goal.loop-r-preserved
 loop-r-preserved c =
@@ -63,10 +62,9 @@ loop-r-preserved c =
     let l = c.loop-r in
     let n = needed (goal.at.loop-r-preserved c).After-need-n in
     let few : need_of a.roll.now a.table.now l.r ≤ most_added = omega (arith, c.if-n-gt-MOST_ADDED.false, n) in (
-      omega arith,
-      each_next (fits a.roll.now a.table.now) l.r l.invariant.1 (le-leb (need_of a.roll.now a.table.now l.r) most_added few),
-      omega (arith, l.invariant.2, n, size_next a.roll.now a.table.now l.r),
-      omega (arith, l.invariant.3, c.if-n-gt-MOST_ADDED.false),
+      each_next (fits a.roll.now a.table.now) l.r l.invariant.0 (le-leb (need_of a.roll.now a.table.now l.r) most_added few),
+      omega (arith, l.invariant.1, n, size_next a.roll.now a.table.now l.r),
+      omega (arith, l.invariant.2, c.if-n-gt-MOST_ADDED.false),
     )
 
 pub returns : goal.returns
@@ -74,7 +72,7 @@ returns c =
     let a = c.args in
     let l = c.loop-r in
     let e : l.r ≡ a.count = omega arith in
-    let p = l.invariant.2 ∙ ap (lists_size a.roll.now a.table.now) e in (
-      p ∙ sym (size_whole a.roll.now a.table.now a.count (rw e at l.invariant.1)),
-      omega (arith, l.invariant.3, c.requires.1),
+    let p = l.invariant.1 ∙ ap (lists_size a.roll.now a.table.now) e in (
+      p ∙ sym (size_whole a.roll.now a.table.now a.count (rw e at l.invariant.0)),
+      omega (arith, l.invariant.2, c.requires.1),
     )

@@ -12,8 +12,8 @@ use Rattle.rules.specs.Bundle.{old_count, bundle_fits}
 use Rattle.rules.specs.Activate.{rack_size}
 use Rattle.entries.specs.Asked.{roll_held}
 use Rattle.composing.proofs.Cascade.{string_refuses, attended_decide, entries_short, entries_within, lists_begin}
-use Rattle.composing.proofs.call.unasked.Goals as goal
-use Rattle.composing.proofs.call.unasked.Goals.{Else-not-is_area, Else-not-is_bundle, Else-not-is_rack, Else-not-is_rack-2, Else-not-rolls_hold}
+use Rattle.composing.proofs.call.check_entries.Goals as goal
+use Rattle.composing.proofs.call.check_entries.Goals.{Else-not-is_area, Else-not-is_bundle, Else-not-is_rack, Else-not-is_rack-2, Else-not-rolls_hold}
 
 -- the store's size, and both racks
 right : (c : Else-not-is_area) → area_right c.args.store.now ≡ true
@@ -71,9 +71,6 @@ bounds-previous-0 c =
           (theirs (goal.at.bounds-previous-0 c).Else-not-is_rack),
     )
 
-pub overflow_cast-previous : goal.overflow_cast-previous
-overflow_cast-previous c = omega (arith, c.shared_slice_known-5-1.given 0)
-
 pub bounds-own-0 : goal.bounds-own-0
 bounds-own-0 c =
     omega (
@@ -81,9 +78,6 @@ bounds-own-0 c =
       rack_length c.args.own.now
           (ours (goal.at.bounds-own-0 c).Else-not-is_rack-2),
     )
-
-pub overflow_cast-own : goal.overflow_cast-own
-overflow_cast-own c = omega (arith, c.shared_slice_known-6-1.given 0)
 
 pub returns-then-not-is_bundle : goal.returns-then-not-is_bundle
 unfolding first rack_cut
@@ -120,20 +114,20 @@ returns-then-not-rolls_hold c =
       no,
     )) (eqb-false 15 0 refl)
 
-pub unattended-requires : goal.unattended-requires
-unattended-requires c =
+pub check_attended-requires : goal.check_attended-requires
+check_attended-requires c =
     let a = c.args in (
-      theirs (goal.at.unattended-requires c).Else-not-is_rack,
-      ours (goal.at.unattended-requires c).Else-not-is_rack-2,
-      lists_begin a.previous.now a.own.now a.e.now a.store.now (fits (goal.at.unattended-requires c).Else-not-is_bundle),
-      entries_short a.previous.now a.own.now a.e.now a.store.now (fits (goal.at.unattended-requires c).Else-not-is_bundle),
+      theirs (goal.at.check_attended-requires c).Else-not-is_rack,
+      ours (goal.at.check_attended-requires c).Else-not-is_rack-2,
+      lists_begin a.previous.now a.own.now a.e.now a.store.now (fits (goal.at.check_attended-requires c).Else-not-is_bundle),
+      entries_short a.previous.now a.own.now a.e.now a.store.now (fits (goal.at.check_attended-requires c).Else-not-is_bundle),
     )
 
 pub returns : goal.returns
 unfolding first
 returns c =
     let a = c.args in
-    c.unattended.ensures
+    c.check_attended.ensures
     ∙ sym (attended_decide a.previous.now a.own.now a.e.now a.store.now
     (rw (
       right (goal.at.returns c).Else-not-is_area,

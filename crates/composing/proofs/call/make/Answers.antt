@@ -13,7 +13,6 @@ use Rattle.rows.proofs.Tables.{fit_length}
 use Rattle.roll.specs.Blocks.{block_bytes, blocks, first_blocks}
 use Rattle.store.specs.Area.{area_right}
 use Rattle.rules.specs.Bundle.{longest_bundle, old_count}
-use Rattle.maker.specs.declared.Made.{Made}
 use Rattle.maker.specs.Rolls.{row_count, roll_made}
 use Rattle.maker.specs.Lists.{all_led, bundle_made}
 use Rattle.maker.specs.Making.{entries_tests, too_large, blocks_made}
@@ -25,15 +24,18 @@ use Rattle.composing.proofs.Tabled.{bundle_is}
 use Rattle.composing.proofs.Lengths.{rolls_fit, size_made, large_is, all_fitting, fitting}
 use Rattle.composing.proofs.Feeding.{all_fed}
 use Rattle.composing.proofs.Cascade.{known, entries_refused, unled_refused, rows_refused, large_refused, roll_refused, bundle_refused, written, roll_long, blocks_are}
-use Rattle.composing.proofs.call.mahqurith_make_bundle.Goals as goal
-use Rattle.composing.proofs.call.mahqurith_make_bundle.Goals.{After-roll_bytes-n, After-whole_size-size, Else-asked-ne-ACCEPTED, Else-count-gt-MOST, Else-not-all_led, Else-size-gt-LONGEST}
+use Rattle.composing.proofs.call.make.Goals as goal
+use Rattle.composing.proofs.call.make.Goals.{then-roll-n-via-then-roll-n, then-roll-n-via-else-roll-n+then-bundle-size}
+use Rattle.refusals.proofs.Answered.{number_refuses}
+use Rattle.rules.proofs.Tolds.{handed_on}
+use Rattle.composing.proofs.call.make.Goals.{After-roll_bytes-n, After-whole_size-size, In_ok-check_entries, Else-count-gt-MOST, Else-not-all_led, Else-size-gt-LONGEST}
 
 -- nothing before the rolls refuses
-accepts : (c : Else-asked-ne-ACCEPTED) → let a = c.args in
+accepts : (c : In_ok-check_entries) → let a = c.args in
     first (entries_tests a.previous.now a.own.now a.entries.now a.store.now) ≡ accepted
-accepts c = sym c.unasked-asked.ensures ∙ c.if-asked-ne-ACCEPTED.false
+accepts c = sym c.in_ok-check_entries.ensures
 
-sees : (c : Else-asked-ne-ACCEPTED) → let a = c.args in
+sees : (c : In_ok-check_entries) → let a = c.args in
     (area_right a.store.now ≡ true) × Given a.entries.now
 sees c = let a = c.args in
     known a.previous.now a.own.now a.entries.now a.store.now (accepts c)
@@ -60,11 +62,11 @@ size c =
 -- and the bundle fits
 fit : (c : Else-size-gt-LONGEST)
     → let a = c.args
-    in rolls_fit a.entries.now a.store.now (sees (goal.at.Else-size-gt-LONGEST c).Else-asked-ne-ACCEPTED).1.rolls
+    in rolls_fit a.entries.now a.store.now (sees (goal.at.Else-size-gt-LONGEST c).In_ok-check_entries).1.rolls
     (few (goal.at.Else-size-gt-LONGEST c).Else-count-gt-MOST) ≡ true
 fit c =
     let a = c.args in
-    all_fitting a.entries.now a.store.now (sees (goal.at.Else-size-gt-LONGEST c).Else-asked-ne-ACCEPTED).1.rolls
+    all_fitting a.entries.now a.store.now (sees (goal.at.Else-size-gt-LONGEST c).In_ok-check_entries).1.rolls
     (few (goal.at.Else-size-gt-LONGEST c).Else-count-gt-MOST) (omega (arith, size (goal.at.Else-size-gt-LONGEST c).After-whole_size-size, c.if-size-gt-LONGEST.false))
 
 made : (c : Else-size-gt-LONGEST)
@@ -73,7 +75,7 @@ made : (c : Else-size-gt-LONGEST)
 made c =
     let a = c.args in
     size (goal.at.Else-size-gt-LONGEST c).After-whole_size-size
-    ∙ size_made a.entries.now a.store.now (sees (goal.at.Else-size-gt-LONGEST c).Else-asked-ne-ACCEPTED).1.rolls
+    ∙ size_made a.entries.now a.store.now (sees (goal.at.Else-size-gt-LONGEST c).In_ok-check_entries).1.rolls
     (few (goal.at.Else-size-gt-LONGEST c).Else-count-gt-MOST) (fit c)
 
 not_large : (c : Else-size-gt-LONGEST)
@@ -81,7 +83,7 @@ not_large : (c : Else-size-gt-LONGEST)
     in too_large a.entries.now a.store.now ≡ false
 not_large c =
     let a = c.args in
-    large_is a.entries.now a.store.now (sees (goal.at.Else-size-gt-LONGEST c).Else-asked-ne-ACCEPTED).1.rolls
+    large_is a.entries.now a.store.now (sees (goal.at.Else-size-gt-LONGEST c).In_ok-check_entries).1.rolls
     (few (goal.at.Else-size-gt-LONGEST c).Else-count-gt-MOST)
     ∙ le-ltb longest_bundle
     (whole_size a.entries.now (roll_made a.entries.now).rows (row_count a.entries.now) (old_count a.entries.now))
@@ -94,16 +96,15 @@ roll_size : (c : After-roll_bytes-n)
 roll_size c =
     let e = c.args.entries.now in
     c.roll_bytes-n.ensures ∙ ap (λ (n : ℕ). block_bytes * blocks n) c.put_rows-count.ensures.0
-    ∙ sym (roll_long e (sees (goal.at.After-roll_bytes-n c).Else-asked-ne-ACCEPTED).1.rolls
+    ∙ sym (roll_long e (sees (goal.at.After-roll_bytes-n c).In_ok-check_entries).1.rolls
     (few (goal.at.After-roll_bytes-n c).Else-count-gt-MOST))
 
-pub returns-then-asked-ne-ACCEPTED : goal.returns-then-asked-ne-ACCEPTED
-returns-then-asked-ne-ACCEPTED c =
+pub returns-in_err-check_entries : goal.returns-in_err-check_entries
+returns-in_err-check_entries c =
     let a = c.args in
-    ap (λ (r : Made). record { number = r.number; roll = r.roll; bundle = r.bundle; roll_area = a.roll.now; bundle_area = a.bundle.now })
-    c.refusal.ensures
-    ∙ entries_refused a.previous.now a.own.now a.entries.now a.store.now a.roll.now a.bundle.now
-    c.unasked-asked.result c.unasked-asked.ensures c.if-asked-ne-ACCEPTED.true
+    rw (handed_on _ _ c.from_residual.ensures.1)
+    (entries_refused a.previous.now a.own.now a.entries.now a.store.now a.roll.now a.bundle.now
+    _ c.in_err-check_entries.ensures (number_refuses _))
 
 pub all_led-requires : goal.all_led-requires
 all_led-requires c = ((sees c).1, (sees c).0)
@@ -111,21 +112,17 @@ all_led-requires c = ((sees c).1, (sees c).0)
 pub returns-then-not-all_led : goal.returns-then-not-all_led
 returns-then-not-all_led c =
     let a = c.args in
-    ap (λ (r : Made). record { number = r.number; roll = r.roll; bundle = r.bundle; roll_area = a.roll.now; bundle_area = a.bundle.now })
-    c.refusal-then-not-all_led.ensures
-    ∙ unled_refused a.previous.now a.own.now a.entries.now a.store.now a.roll.now a.bundle.now
-    (accepts (goal.at.returns-then-not-all_led c).Else-asked-ne-ACCEPTED) (sym c.all_led.ensures ∙ c.if-not-all_led.true)
+    unled_refused a.previous.now a.own.now a.entries.now a.store.now a.roll.now a.bundle.now
+    (accepts (goal.at.returns-then-not-all_led c).In_ok-check_entries) (sym c.all_led.ensures ∙ c.if-not-all_led.true)
 
 pub put_rows-count-requires : goal.put_rows-count-requires
-put_rows-count-requires c = ((sees (goal.at.put_rows-count-requires c).Else-asked-ne-ACCEPTED).1, length-replicate {A = ℕ} table_bytes 0)
+put_rows-count-requires c = ((sees (goal.at.put_rows-count-requires c).In_ok-check_entries).1, length-replicate {A = ℕ} table_bytes 0)
 
 pub returns-then-count-gt-MOST : goal.returns-then-count-gt-MOST
 returns-then-count-gt-MOST c =
     let a = c.args in
-    ap (λ (r : Made). record { number = r.number; roll = r.roll; bundle = r.bundle; roll_area = a.roll.now; bundle_area = a.bundle.now })
-    c.refusal-then-count-gt-MOST.ensures
-    ∙ rows_refused a.previous.now a.own.now a.entries.now a.store.now a.roll.now a.bundle.now
-    (accepts (goal.at.returns-then-count-gt-MOST c).Else-asked-ne-ACCEPTED) (leads (goal.at.returns-then-count-gt-MOST c).Else-not-all_led)
+    rows_refused a.previous.now a.own.now a.entries.now a.store.now a.roll.now a.bundle.now
+    (accepts (goal.at.returns-then-count-gt-MOST c).In_ok-check_entries) (leads (goal.at.returns-then-count-gt-MOST c).Else-not-all_led)
     (omega (arith, c.put_rows-count.ensures.0, c.if-count-gt-MOST.true))
 
 -- the table's length
@@ -135,11 +132,11 @@ long : (c : Else-count-gt-MOST)
     ≡ table_bytes
 long c =
     let e = c.args.entries.now in
-    fit_length (row_count e) (roll_made e).rows (made_fits e (sees (goal.at.Else-count-gt-MOST c).Else-asked-ne-ACCEPTED).1.rolls (few c))
+    fit_length (row_count e) (roll_made e).rows (made_fits e (sees (goal.at.Else-count-gt-MOST c).In_ok-check_entries).1.rolls (few c))
 
 pub whole_size-size-requires : goal.whole_size-size-requires
 whole_size-size-requires c = (
-  (sees (goal.at.whole_size-size-requires c).Else-asked-ne-ACCEPTED).1,
+  (sees (goal.at.whole_size-size-requires c).In_ok-check_entries).1,
   omega (arith, c.if-count-gt-MOST.false),
   ap length (c.put_rows-count.ensures.1 (few (goal.at.whole_size-size-requires c).Else-count-gt-MOST)) ∙ long (goal.at.whole_size-size-requires c).Else-count-gt-MOST,
 )
@@ -148,36 +145,28 @@ pub returns-then-size-gt-LONGEST : goal.returns-then-size-gt-LONGEST
 returns-then-size-gt-LONGEST c =
     let a = c.args in
     let large = large_is a.entries.now a.store.now
-    (sees (goal.at.returns-then-size-gt-LONGEST c).Else-asked-ne-ACCEPTED).1.rolls (few (goal.at.returns-then-size-gt-LONGEST c).Else-count-gt-MOST)
+    (sees (goal.at.returns-then-size-gt-LONGEST c).In_ok-check_entries).1.rolls (few (goal.at.returns-then-size-gt-LONGEST c).Else-count-gt-MOST)
     ∙ lt-ltb longest_bundle
     (whole_size a.entries.now (roll_made a.entries.now).rows (row_count a.entries.now) (old_count a.entries.now))
     (omega (arith, size (goal.at.returns-then-size-gt-LONGEST c).After-whole_size-size, c.if-size-gt-LONGEST.true)) in
-    ap (λ (r : Made). record { number = r.number; roll = r.roll; bundle = r.bundle; roll_area = a.roll.now; bundle_area = a.bundle.now })
-    c.refusal-then-size-gt-LONGEST.ensures
-    ∙ large_refused a.previous.now a.own.now a.entries.now a.store.now a.roll.now a.bundle.now
-    (accepts (goal.at.returns-then-size-gt-LONGEST c).Else-asked-ne-ACCEPTED)
+    large_refused a.previous.now a.own.now a.entries.now a.store.now a.roll.now a.bundle.now
+    (accepts (goal.at.returns-then-size-gt-LONGEST c).In_ok-check_entries)
     (leads (goal.at.returns-then-size-gt-LONGEST c).Else-not-all_led) large
 
 pub returns-then-roll-n : goal.returns-then-roll-n
 returns-then-roll-n c =
     let a = c.args in
-    ap (λ (r : Made). record { number = r.number; roll = r.roll; bundle = r.bundle; roll_area = a.roll.now; bundle_area = a.bundle.now })
-    c.refusal-then-roll-n.ensures
-    ∙ roll_refused a.previous.now a.own.now a.entries.now a.store.now a.roll.now a.bundle.now
-    (accepts (goal.at.returns-then-roll-n c).Else-asked-ne-ACCEPTED)
-    (leads (goal.at.returns-then-roll-n c).Else-not-all_led) (not_large (goal.at.returns-then-roll-n c).Else-size-gt-LONGEST)
-    (omega (arith, roll_size (goal.at.returns-then-roll-n c).After-roll_bytes-n, c.if-roll-n.true))
-
-pub returns-then-bundle-size : goal.returns-then-bundle-size
-returns-then-bundle-size c =
-    let a = c.args in
-    ap (λ (r : Made). record { number = r.number; roll = r.roll; bundle = r.bundle; roll_area = a.roll.now; bundle_area = a.bundle.now })
-    c.refusal-then-bundle-size.ensures
-    ∙ bundle_refused a.previous.now a.own.now a.entries.now a.store.now a.roll.now a.bundle.now
-    (accepts (goal.at.returns-then-bundle-size c).Else-asked-ne-ACCEPTED)
-    (leads (goal.at.returns-then-bundle-size c).Else-not-all_led) (not_large (goal.at.returns-then-bundle-size c).Else-size-gt-LONGEST)
-    (omega (arith, roll_size (goal.at.returns-then-bundle-size c).After-roll_bytes-n, c.if-roll-n.false))
-    (omega (arith, made (goal.at.returns-then-bundle-size c).Else-size-gt-LONGEST, c.if-bundle-size.true))
+    let start = accepts (goal.at.returns-then-roll-n c).In_ok-check_entries in
+    let all = leads (goal.at.returns-then-roll-n c).Else-not-all_led in
+    let fits = not_large (goal.at.returns-then-roll-n c).Else-size-gt-LONGEST in
+    let long = roll_size (goal.at.returns-then-roll-n c).After-roll_bytes-n in
+    elim c.then-roll-n.branch [
+      | then-roll-n-via-then-roll-n w ↦
+          roll_refused a.previous.now a.own.now a.entries.now a.store.now a.roll.now a.bundle.now start all fits (omega (arith, long, w.if-roll-n.true))
+      | then-roll-n-via-else-roll-n+then-bundle-size w ↦
+          bundle_refused a.previous.now a.own.now a.entries.now a.store.now a.roll.now a.bundle.now start all fits (omega (arith, long, w.if-roll-n.false))
+          (omega (arith, made (goal.at.returns-then-roll-n c).Else-size-gt-LONGEST, w.if-bundle-size.true))
+    ]
 
 pub put_bundle-requires : goal.put_bundle-requires
 put_bundle-requires c =
@@ -185,14 +174,14 @@ put_bundle-requires c =
     let e = a.entries.now in
     let s = a.store.now in
     let held = (sees
-    (goal.at.put_bundle-requires c).Else-asked-ne-ACCEPTED).1.rolls in
+    (goal.at.put_bundle-requires c).In_ok-check_entries).1.rolls in
     let table =
     c.put_rows-count.ensures.1
     (few (goal.at.put_bundle-requires c).Else-count-gt-MOST) in
     let count =
     c.put_rows-count.ensures.0 in (
-      (sees (goal.at.put_bundle-requires c).Else-asked-ne-ACCEPTED).1,
-      (sees (goal.at.put_bundle-requires c).Else-asked-ne-ACCEPTED).0,
+      (sees (goal.at.put_bundle-requires c).In_ok-check_entries).1,
+      (sees (goal.at.put_bundle-requires c).In_ok-check_entries).0,
       omega (arith, c.if-count-gt-MOST.false),
       ap length table ∙ long (goal.at.put_bundle-requires c).Else-count-gt-MOST,
       rw (table, count)
@@ -220,7 +209,7 @@ returns c =
     let count =
     c.put_rows-count.ensures.0 in
     written a.previous.now a.own.now e s a.roll.now a.bundle.now
-    (accepts (goal.at.returns c).Else-asked-ne-ACCEPTED)
+    (accepts (goal.at.returns c).In_ok-check_entries)
     (leads (goal.at.returns c).Else-not-all_led) (not_large (goal.at.returns c).Else-size-gt-LONGEST)
     (omega (
       arith,
@@ -234,7 +223,7 @@ returns c =
     (c.put_bundle.ensures ∙ ap₂ (λ (t : List ℕ) (n : ℕ). put a.bundle.now 0 (e ++ lists_of e s t n (old_count e))) table count
     ∙ ap (put a.bundle.now 0)
     (bundle_is e
-    (sees (goal.at.returns c).Else-asked-ne-ACCEPTED).1.rolls s))
+    (sees (goal.at.returns c).In_ok-check_entries).1.rolls s))
     (omega (
       arith,
       made (goal.at.returns c).Else-size-gt-LONGEST,
