@@ -1,79 +1,42 @@
 // Append.
-ghost use Rattle.std.specs.Prelude.{◌≡◌, ◌+◌, eqb};
-ghost use Rattle.refusals.specs.Order.{first};
+ghost use Rattle.std.specs.Prelude.{◌≡◌, IfOk};
 ghost use Rattle.rows.specs.Search.{find};
 ghost use Rattle.statement.specs.Kinds.{receipt_size};
-ghost use Rattle.rules.specs.Outcomes.{Lent, outcome};
+ghost use Rattle.rules.specs.Outcomes.{Lent, outcome, told_place};
 ghost use Rattle.rules.specs.Rows.{row_number};
 ghost use Rattle.rules.specs.Append.{appending};
-ghost use Rattle.ledgers.specs.Tests.{place_if};
 ghost use Rattle.appending.specs.Known.{Appendable, Entered};
-ghost use Rattle.appending.specs.Tests.{ordered, append_told};
+ghost use Rattle.appending.specs.Tests.{append_told};
 
 use crate::table::{Shown, move_on};
-use ledgers::{receipt, seek};
-use record::{acceptance, give, refusal};
-use rows::{TOP, height_at};
-use rules::{Head, Told};
+use ledgers::{receipt, seek_row};
+use record::give;
+use refusals::Refusal;
+use rows::{TOP, height_at, is_next};
+use rules::Head;
 use statement::{Kind, RECEIPT_SIZE};
 
-// Whether a height is the next one.
-pub fn is_next(expected: u64, height: u64) -> bool
-    ensures { result ≡ eqb expected (height + 1) }
-{
-    if expected == 0 {
-        return false;
-    }
-    expected - 1 == height
-}
-
-// The first refusal of the heights, or 0.
-fn unordered(expected: u64, height: u64) -> u32
-    ensures { result ≡ first (ordered expected height) }
-{
-    if !is_next(expected, height) {
-        return refusals::OUT_OF_ORDER;
-    }
-    if height == TOP {
-        return refusals::HEIGHT_AT_TOP;
-    }
-    refusals::ACCEPTED
-}
-
-// What an append tells: its answer and head, and the number of the row that moves on, or 0 where the call is refused.
-#[derive(Clone, Copy)]
-pub struct Moved {
-    pub told: Told,
-    pub place: usize,
-}
-
-// The answer of a refused append into an area of so many bytes; its number is 0 where nothing refuses, and the row is found.
-pub fn refusal_of_append(
+// The number of the row that an append moves on, or what refuses it first; the receipt takes so many bytes.
+pub fn check_append(
     head: Head,
     table: &[u8],
     label: [u8; 16],
     expected: u64,
     area: &[u8],
     size: usize,
-) -> Moved
-    ensures told { result.told ≡ append_told size (record { head = head; table = table.now; area = area.now }) label expected }
-    ensures place { result.place ≡ place_if result.told.answer.number (find head.count table.now label) }
+) -> Result<usize, Refusal>
+    ensures told { told_place head 0 result ≡ append_told size (record { head = head; table = table.now; area = area.now }) label expected }
+    ensures place { IfOk result (λ i. i ≡ row_number (find head.count table.now label)) }
 {
-    let sought = seek(head, table, label, area, size);
-    if sought.number != refusals::ACCEPTED {
-        let told = refusal(sought.number, 0, head);
-        return Moved { told, place: 0 };
+    let place = seek_row(head, table, label, area, size)?;
+    let height = height_at(table, place);
+    if !is_next(expected, height) {
+        return Err(Refusal::OutOfOrder { height });
     }
-    let height = height_at(table, sought.place);
-    let number = unordered(expected, height);
-    let told = refusal(number, height, head);
-    if number != refusals::ACCEPTED {
-        return Moved { told, place: 0 };
+    if height == TOP {
+        return Err(Refusal::HeightAtTop);
     }
-    Moved {
-        told,
-        place: sought.place,
-    }
+    Ok(place)
 }
 
 // Row i, the ledger's, moves on, and its receipt is given.
@@ -91,13 +54,12 @@ pub fn enter(
         table.new area.new result.tail result.height }
 {
     let row = move_on(table, i, entry);
-    let tail = row.tail;
     let kind = Kind::Append { height: row.height };
-    give(receipt(head, kind, label, tail), area);
+    give(receipt(head, kind, label, row.tail), area);
     row
 }
 
-// A ledger's next entry.
+// A ledger's next entry; the number of the row that has moved on.
 pub fn append(
     head: Head,
     table: &mut [u8],
@@ -105,17 +67,12 @@ pub fn append(
     entry: [u8; 32],
     expected: u64,
     area: &mut [u8],
-) -> Moved
-    ensures outcome { outcome result.told table.new area.new
+) -> Result<usize, Refusal>
+    ensures outcome { outcome (told_place head receipt_size result) table.new area.new
         ≡ appending (record { head = head; table = table.old; area = area.old }) label entry expected }
-    ensures place { result.place ≡ place_if result.told.answer.number (find head.count table.old label) }
+    ensures place { IfOk result (λ i. i ≡ row_number (find head.count table.old label)) }
 {
-    let found = refusal_of_append(head, table, label, expected, area, RECEIPT_SIZE);
-    if found.told.answer.number != refusals::ACCEPTED {
-        return found;
-    }
-    let place = found.place;
-    let _row = enter(head, table, place, label, entry, area);
-    let told = acceptance(RECEIPT_SIZE, head);
-    Moved { told, place }
+    let place = check_append(head, table, label, expected, area, RECEIPT_SIZE)?;
+    enter(head, table, place, label, entry, area);
+    Ok(place)
 }

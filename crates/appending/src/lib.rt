@@ -2,7 +2,9 @@
 #![tactic(auto)]
 
 mod appending;
+mod before;
 mod table;
 
-pub use appending::{Moved, append, enter, is_next, refusal_of_append};
+pub use appending::{append, check_append, enter};
+pub use before::{Moved, is_next, refusal_of_append};
 pub use table::{Shown, move_row};

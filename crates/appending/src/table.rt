@@ -32,10 +32,8 @@ pub fn move_on(table: &mut [u8], i: usize, entry: [u8; 32]) -> Shown
     ensures tail { result.tail ≡ appended (tail_of table.old i) entry }
     ensures height { result.height ≡ height_of table.old i + 1 }
 {
-    let old = tail_at(table, i);
-    let height = height_at(table, i);
-    let tail = appended(old, entry);
-    let next = height + 1;
-    move_row(table, i, tail, next);
-    Shown { tail, height: next }
+    let tail = appended(tail_at(table, i), entry);
+    let height = height_at(table, i) + 1;
+    move_row(table, i, tail, height);
+    Shown { tail, height }
 }

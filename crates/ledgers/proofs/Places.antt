@@ -6,13 +6,16 @@ use Prim.Native.Nat.{ℕ}
 use native.Mathlib.Omega.{arith}
 use borrow.Author.Tests.{eqb-false, eq-eqb, ne_eqb}
 use Rattle.refusals.specs.{accepted, no_such_ledger, not_active}
+use Rattle.refusals.specs.declared.Refusal.{Refusal}
 use Rattle.refusals.specs.Order.{first}
+use Rattle.refusals.proofs.Answered.{number_refuses}
 use Rattle.refusals.proofs.Orders.{passes}
-use Rattle.std.specs.Prelude.{Result}
+use Rattle.std.specs.Prelude.{Result, Ok, Err, IfOk}
+use Rattle.std.specs.Result.{result_unwrap_or}
 use Rattle.rows.specs.Table.{rows_fit}
 use Rattle.rows.proofs.Tables.{fit_length, fit_count}
 use Rattle.rules.specs.Record.{active}
-use Rattle.rules.specs.Outcomes.{Lent}
+use Rattle.rules.specs.Outcomes.{Lent, answer_placed}
 use Rattle.rules.specs.Rows.{is_absent, row_number, sought}
 use Rattle.rules.proofs.FoundRows.{row_found}
 use Rattle.rules.proofs.Firsts.{ready, sound_rows}
@@ -44,3 +47,12 @@ module _ (n : ℕ) (f : Result ℕ ℕ) where
 -- one answer, one place
 pub one_place : {i j : ℕ} (n m : ℕ) (f : Result ℕ ℕ) → i ≡ place_if n f → j ≡ place_if m f → n ≡ m → i ≡ j
 one_place n m f e g h = e ∙ ap (λ (l : ℕ). place_if l f) h ∙ sym g
+
+-- one answer, one row
+pub one_row :
+    (n w : ℕ) (q p : Result ℕ Refusal) → IfOk q (λ i. i ≡ n) → IfOk p (λ i. i ≡ n)
+    → (answer_placed w q).number ≡ (answer_placed w p).number → result_unwrap_or q 0 ≡ result_unwrap_or p 0
+one_row n w (Ok i) (Ok j) e f s = e ∙ sym f
+one_row n w (Ok i) (Err r) e f s = absurd (number_refuses r (sym s))
+one_row n w (Err r) (Ok i) e f s = absurd (number_refuses r s)
+one_row n w (Err r) (Err t) e f s = refl

@@ -1,7 +1,7 @@
 use mathlib.Core.Path.{sym, ◌∙◌}
 use borrow.Author.Tests.{eq-eqb, ne_eqb}
 use Rattle.refusals.specs.Order.{first}
-use Rattle.appending.proofs.appending.unordered.Goals as goal
+use Rattle.appending.proofs.before.unordered.Goals as goal
 
 pub returns-then-not-is_next : goal.returns-then-not-is_next
 unfolding first

@@ -4,7 +4,7 @@ use Prim.Native.Nat.{ℕ, ◌+◌, ◌-◌}
 use native.Mathlib.Omega.{arith}
 use borrow.Author.Tests.{eq-eqb, ne_eqb, eqb-true, eqb-false}
 use lib.Dec.{eqb}
-use Rattle.appending.proofs.appending.is_next.Goals as goal
+use Rattle.appending.proofs.before.is_next.Goals as goal
 
 -- the one before a number that is not 0
 one_less : (n m : ℕ) → (n ≡ 0 → ⊥) → eqb (n - 1) m ≡ eqb n (m + 1)

@@ -12,8 +12,8 @@ use Rattle.ledgers.specs.Tests.{place_if}
 use Rattle.ledgers.proofs.Places.{findable, placed, unplaced}
 use Rattle.appending.specs.Tests.{ordered, append_told}
 use Rattle.appending.proofs.Answers.{found_append, unfound_answer}
-use Rattle.appending.proofs.appending.refusal_of_append.Goals as goal
-use Rattle.appending.proofs.appending.refusal_of_append.Goals.{After-refusal-told-2, Else-sought-ne-ACCEPTED}
+use Rattle.appending.proofs.before.refusal_of_append.Goals as goal
+use Rattle.appending.proofs.before.refusal_of_append.Goals.{After-refusal-told-2, Else-sought-ne-ACCEPTED}
 
 -- the place that the search gives where nothing refuses it
 found_place :
