@@ -1,5 +1,6 @@
 -- Laws of the hash value after chunks: it goes on from chunk to chunk, and the first chunks are all that it reads. Assumes nothing.
-use Rattle.std.proofs.Common.{◌≡◌, ℕ, zero, suc, ◌+◌, ◌*◌, ◌≤◌, List, take, drop, sym, refl, ap, ◌∙◌, ap₂, le-add_right, add-zero, add-suc, mul-suc, mul-add, add-one, take-take, drop-drop}
+use Rattle.std.proofs.Common.{◌≡◌, ℕ, zero, suc, ◌+◌, ◌*◌, ◌≤◌, List, ◌++◌, length, take, drop, sym, refl, ap, ◌∙◌, ap₂, le-add_right, add-zero, add-suc, mul-suc, mul-add, add-one, take-take, drop-drop}
+use lib.Seq.{take_at, drop_at}
 use Rattle.octets.proofs.Parts.{drop-take}
 use Rattle.hash.specs.Family.{Family, word_bytes, chunk_bytes}
 use Rattle.hash.specs.Padding.{words, chunk}
@@ -47,3 +48,19 @@ absorbed_agree F H s t (suc n) h =
     sym (take-take (chunk_bytes F * n) (chunk_bytes F * suc n) s k) ∙ ap (take (chunk_bytes F * n)) h
     ∙ take-take (chunk_bytes F * n) (chunk_bytes F * suc n) t k in
     ap₂ (compressed F) (absorbed_agree F H s t n g) (chunk_agree F s t n h)
+
+-- a chunk more from the front of what is left of a string
+module _
+    (F : Family) (H s rest part left : List ℕ) (n : ℕ) (at : rest ≡ drop (chunk_bytes F * n) s)
+    (cut : rest ≡ part ++ left) (whole : length part ≡ chunk_bytes F) where
+  pub absorbed_part : compressed F (absorbed F H s n) (words (word_bytes F) part 16) ≡ absorbed F H s (n + 1)
+  unfolding chunk
+  absorbed_part =
+      let first : part ≡ take (chunk_bytes F) (drop (chunk_bytes F * n) s) =
+      sym (take_at part left (chunk_bytes F) whole) ∙ ap (take (chunk_bytes F)) (sym cut ∙ at) in
+      ap (λ (l : List ℕ). compressed F (absorbed F H s n) (words (word_bytes F) l 16)) first ∙ sym (absorbed_more F H s n)
+
+  pub left_part : left ≡ drop (chunk_bytes F * (n + 1)) s
+  left_part =
+      sym (drop_at part left (chunk_bytes F) whole) ∙ ap (drop (chunk_bytes F)) (sym cut ∙ at) ∙ drop-drop (chunk_bytes F) (chunk_bytes F * n) s
+      ∙ ap (λ (k : ℕ). drop k s) (rw (add-one n) (sym (mul-suc (chunk_bytes F) n)))

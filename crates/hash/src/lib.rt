@@ -28,9 +28,10 @@ pub fn digest(message: &[u8]) -> [u8; 32]
 {
     let mut schedule = [0u32; 16];
     let whole = message.len() / 64;
-    let h = absorb(INITIAL, &mut schedule, message, whole);
+    let h = absorb(INITIAL, &mut schedule, message);
     let last = ending(&message[64 * whole..], message.len());
-    joined_words(absorb(h, &mut schedule, &last, ending_chunks(message.len() % 64)))
+    let chunks = ending_chunks(message.len() % 64);
+    joined_words(absorb(h, &mut schedule, &last[..64 * chunks]))
 }
 
 // SHA-256 of the message is stored in the digest area, or the message is too long and nothing changes.

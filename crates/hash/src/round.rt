@@ -4,8 +4,7 @@ ghost use Rattle.hash.specs.Rounds.{T₁, T₂, round};
 ghost use Rattle.hash.specs.Sha256.{sha_256};
 ghost use Rattle.hash.specs.Turns.{eight};
 
-use crate::word::{ch, maj, upper_sigma_0, upper_sigma_1};
-use std::num::wrapping_add_u32;
+use crate::word::{ch, maj, upper_sigma};
 
 // The eight working variables.
 #[derive(Clone, Copy)]
@@ -23,17 +22,16 @@ pub struct Working {
 fn first_sum(s: Working, k: u32, w: u32) -> u32
     ensures { result ≡ T₁ sha_256 (eight s) k w }
 {
-    let sum = wrapping_add_u32(s.h, upper_sigma_1(s.e));
-    wrapping_add_u32(
-        wrapping_add_u32(wrapping_add_u32(sum, ch(s.e, s.f, s.g)), k),
-        w,
-    )
+    let sum = s.h.wrapping_add(upper_sigma::<6, 11, 25>(s.e));
+    sum.wrapping_add(ch(s.e, s.f, s.g))
+        .wrapping_add(k)
+        .wrapping_add(w)
 }
 
 fn second_sum(s: Working) -> u32
     ensures { result ≡ T₂ sha_256 (eight s) }
 {
-    wrapping_add_u32(upper_sigma_0(s.a), maj(s.a, s.b, s.c))
+    upper_sigma::<2, 13, 22>(s.a).wrapping_add(maj(s.a, s.b, s.c))
 }
 
 // One round, with a constant and a word of the schedule.
@@ -43,11 +41,11 @@ pub fn one_round(s: Working, k: u32, w: u32) -> Working
     let t1 = first_sum(s, k, w);
     let t2 = second_sum(s);
     Working {
-        a: wrapping_add_u32(t1, t2),
+        a: t1.wrapping_add(t2),
         b: s.a,
         c: s.b,
         d: s.c,
-        e: wrapping_add_u32(s.d, t1),
+        e: s.d.wrapping_add(t1),
         f: s.e,
         g: s.f,
         h: s.g,

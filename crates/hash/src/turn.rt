@@ -1,35 +1,32 @@
 // The rounds of SHA-256, with sixteen words of the schedule: word t stands in place t mod 16.
-ghost use Rattle.std.specs.Prelude.{◌≡◌, ◌+◌, ◌<◌, ◌≤◌, length};
+ghost use Rattle.std.specs.Prelude.{◌≡◌, ◌+◌, ◌<◌, ◌≤◌};
 ghost use Rattle.hash.specs.Sha256.{constants, sha_256};
 ghost use Rattle.hash.specs.Turns.{eight, stage, word_after, reads, turn, steps};
 
 use crate::round::{Working, one_round};
-use crate::word::{lower_sigma_0, lower_sigma_1};
-use std::num::wrapping_add_u32;
+use crate::word::lower_sigma;
 
 // Round t, with its constant and the word in its place.
-fn round_at(s: Working, w: &[u32], k: &[u32], t: usize) -> Working
-    requires { (t < 64) × (length w.now ≡ 16) × (k.now ≡ constants) }
+fn round_at(s: Working, w: &[u32; 16], k: &[u32; 64], t: usize) -> Working
+    requires { (t < 64) × (k.now ≡ constants) }
     ensures { eight result ≡ reads sha_256 w.now (eight s) t }
 {
     one_round(s, k[t], w[t % 16])
 }
 
 // Word t + 16 of the schedule, from the sixteen before it.
-fn word_after(w: &[u32], t: usize) -> u32
-    requires { (t < 48) × (length w.now ≡ 16) }
+fn word_after(w: &[u32; 16], t: usize) -> u32
+    requires { t < 48 }
     ensures { result ≡ word_after sha_256 w.now t }
 {
-    let sum = wrapping_add_u32(lower_sigma_1(w[(t + 14) % 16]), w[(t + 9) % 16]);
-    wrapping_add_u32(
-        wrapping_add_u32(sum, lower_sigma_0(w[(t + 1) % 16])),
-        w[t % 16],
-    )
+    let sum = lower_sigma::<17, 19, 10>(w[(t + 14) % 16]).wrapping_add(w[(t + 9) % 16]);
+    sum.wrapping_add(lower_sigma::<7, 18, 3>(w[(t + 1) % 16]))
+        .wrapping_add(w[t % 16])
 }
 
 // Round t reads word t, and word t + 16 goes into its place.
-fn one_turn(s: Working, w: &mut [u32], k: &[u32], t: usize) -> Working
-    requires { (t < 48) × (length w.old ≡ 16) × (k.now ≡ constants) }
+fn one_turn(s: Working, w: &mut [u32; 16], k: &[u32; 64], t: usize) -> Working
+    requires { (t < 48) × (k.now ≡ constants) }
     ensures { stage w.new result ≡ turn sha_256 (stage w.old s) t }
 {
     let next = round_at(s, w, k, t);
@@ -37,9 +34,10 @@ fn one_turn(s: Working, w: &mut [u32], k: &[u32], t: usize) -> Working
     next
 }
 
-// Sixteen turns. They begin at a multiple of sixteen, so the optimiser knows each place, and the working variables need no moves.
-fn sixteen_turns(s: Working, w: &mut [u32], k: &[u32], t: usize) -> Working
-    requires { (t + 16 ≤ 48) × (length w.old ≡ 16) × (k.now ≡ constants) }
+// Sixteen turns. They begin at a multiple of sixteen, so the optimiser knows each place, and the working variables need no moves. The calls stay written out:
+// in a loop, or four loops of four, the hash takes 1.24 or 1.33 times as long (bench/README.md, "What limits the speed").
+fn sixteen_turns(s: Working, w: &mut [u32; 16], k: &[u32; 64], t: usize) -> Working
+    requires { (t + 16 ≤ 48) × (k.now ≡ constants) }
     ensures { stage w.new result ≡ steps (turn sha_256) (stage w.old s) t 16 }
 {
     let s1 = one_turn(s, w, k, t);
@@ -61,39 +59,37 @@ fn sixteen_turns(s: Working, w: &mut [u32], k: &[u32], t: usize) -> Working
 }
 
 // The first forty-eight rounds, each of which leaves a word for a later one.
-pub fn first_rounds(s: Working, w: &mut [u32], k: &[u32]) -> Working
-    requires { (length w.old ≡ 16) × (k.now ≡ constants) }
+pub fn first_rounds(s: Working, w: &mut [u32; 16], k: &[u32; 64]) -> Working
+    requires { k.now ≡ constants }
     ensures { stage w.new result ≡ steps (turn sha_256) (stage w.old s) 0 48 }
 {
     let mut state = s;
-    let mut t = 0;
-    while t < 48 {
-        state = sixteen_turns(state, w, k, t);
-        t += 16;
+    for i in 0..3 {
+        state = sixteen_turns(state, w, k, 16 * i);
     }
     state
 }
 
-fn four_rounds(s: Working, w: &[u32], k: &[u32], t: usize) -> Working
-    requires { (t + 4 ≤ 64) × (length w.now ≡ 16) × (k.now ≡ constants) }
+// Four rounds, which the compiler unrolls; a loop over all sixteen takes 1.05 times as long.
+fn four_rounds(s: Working, w: &[u32; 16], k: &[u32; 64], t: usize) -> Working
+    requires { (t + 4 ≤ 64) × (k.now ≡ constants) }
     ensures { eight result ≡ steps (reads sha_256 w.now) (eight s) t 4 }
 {
-    let s1 = round_at(s, w, k, t);
-    let s2 = round_at(s1, w, k, t + 1);
-    let s3 = round_at(s2, w, k, t + 2);
-    round_at(s3, w, k, t + 3)
+    let mut state = s;
+    for u in t..t + 4 {
+        state = round_at(state, w, k, u);
+    }
+    state
 }
 
 // The last sixteen rounds.
-pub fn last_rounds(s: Working, w: &[u32], k: &[u32]) -> Working
-    requires { (length w.now ≡ 16) × (k.now ≡ constants) }
+pub fn last_rounds(s: Working, w: &[u32; 16], k: &[u32; 64]) -> Working
+    requires { k.now ≡ constants }
     ensures { eight result ≡ steps (reads sha_256 w.now) (eight s) 48 16 }
 {
     let mut state = s;
-    let mut t = 48;
-    while t < 64 {
-        state = four_rounds(state, w, k, t);
-        t += 4;
+    for i in 12..16 {
+        state = four_rounds(state, w, k, 4 * i);
     }
     state
 }

@@ -8,10 +8,8 @@ pub fn joined_words(h: [u32; 8]) -> [u8; 32]
     ensures { result ≡ joined 4 h 8 }
 {
     let mut out = [0u8; 32];
-    let mut i = 0;
-    while i < 8 {
-        put_word(&mut out, 4 * i, h[i]);
-        i += 1;
+    for (i, word) in h.iter().enumerate() {
+        put_word(&mut out, 4 * i, *word);
     }
     out
 }

@@ -1,35 +1,47 @@
-use Rattle.std.proofs.Common.{◌≡◌, ℕ, ◌+◌, ◌-◌, ◌*◌, List, sym, ap, ◌∙◌, arith, length-drop, length-take, rules}
+use Rattle.std.proofs.Common.{◌≡◌, ℕ, ◌+◌, ◌*◌, ◌/◌, List, [], ◌∷◌, ◌++◌, length, refl, ap, ◌∙◌, arith, length-append, length-drop}
 use Rattle.hash.specs.Family.{word_bytes, chunk_bytes}
-use Rattle.hash.specs.Padding.{chunk}
+use Rattle.hash.specs.Padding.{words}
 use Rattle.hash.specs.Rounds.{compressed}
-use Rattle.hash.proofs.Absorbed.{absorbed_more}
 use Rattle.hash.specs.Digest.{absorbed}
-use Rattle.hash.specs.Sha256.{sha_256}
+use Rattle.hash.specs.Sha256.{constants, sha_256}
+use Rattle.hash.proofs.Absorbed.{absorbed_part, left_part}
 use Rattle.hash.proofs.chunk.absorb.Goals as goal
 
-pub loop-i-init : goal.loop-i-init
+pub loop-chunk-init : goal.loop-chunk-init
 unfolding absorbed
-loop-i-init c = search rules
+loop-chunk-init c =
+    let e = c.into_iter-chunk-iterator.ensures.into_iter_gives in
+    let f = c.chunks_exact-chunk-items.ensures in
+    record { size = rw e f.size; within = omega arith; rest = rw e f.rest; so_far = refl }
 
 pub compress-next-requires : goal.compress-next-requires
-compress-next-requires c = (c.loop-i.invariant.1, simp (length-take, length-drop) (omega arith))
+unfolding constants
+compress-next-requires c = (refl, c.in-Some.ensures.steps.1.1 ∙ c.loop-chunk.invariant.size)
 
-pub loop-i-preserved : goal.loop-i-preserved
-unfolding word_bytes chunk_bytes chunk sha_256
-loop-i-preserved c =
-    let a = c.args in
-    let l = c.loop-i in
-    let k = c.compress-next in
-    let e : 64 * l.i + 64 - 64 * l.i ≡ 64 = omega arith in (
-      omega arith,
-      omega (arith, k.auto.w),
-      rw e at k.ensures ∙ ap (λ (v : List ℕ). compressed sha_256 v (chunk sha_256 a.s.now l.i)) l.invariant.2
-          ∙ sym (absorbed_more sha_256 a.h a.s.now l.i),
-    )
+pub loop-chunk-preserved : goal.loop-chunk-preserved
+unfolding word_bytes chunk_bytes sha_256
+loop-chunk-preserved c =
+    let l = c.loop-chunk in
+    let step = c.in-Some.ensures.steps in
+    let s = c.args.s.now in
+    let n = length l.yielded in
+    let whole : length c.in-Some.chunk.now ≡ 64 = step.1.1 ∙ l.invariant.size in
+    let more : length (l.yielded ++ (c.in-Some.chunk ∷ [])) ≡ n + 1 = length-append l.yielded (c.in-Some.chunk ∷ []) in
+    let room : length l.chunk-iterator.rest.now ≡ 64 + length c.next.new.self.rest.now =
+    ap length step.1.0 ∙ length-append c.in-Some.chunk.now c.next.new.self.rest.now ∙ ap (λ (k : ℕ). k + length c.next.new.self.rest.now) whole in
+    rw more
+    (record {
+      size = step.0 ∙ l.invariant.size;
+      within = omega (arith, room, ap length l.invariant.rest, length-drop (64 * n) s);
+      rest = left_part sha_256 c.args.h s l.chunk-iterator.rest.now c.in-Some.chunk.now c.next.new.self.rest.now n l.invariant.rest step.1.0 whole;
+      so_far =
+          c.compress-next.ensures ∙ ap (λ (v : List ℕ). compressed sha_256 v (words 4 c.in-Some.chunk.now 16)) l.invariant.so_far
+          ∙ absorbed_part sha_256 c.args.h s l.chunk-iterator.rest.now c.in-Some.chunk.now c.next.new.self.rest.now n l.invariant.rest step.1.0 whole;
+    })
 
 pub returns : goal.returns
 returns c =
-    let a = c.args in
-    let l = c.loop-i in
-    let e : l.i ≡ a.count = omega arith in
-    rw e at l.invariant.2
+    let l = c.loop-chunk in
+    let n : length l.yielded ≡ length c.args.s.now / 64 =
+    omega (arith, c.in-None.ensures.steps.1.0, l.invariant.size, ap length l.invariant.rest, length-drop (64 * length l.yielded) c.args.s.now) in
+    l.invariant.so_far ∙ ap (absorbed sha_256 c.args.h c.args.s.now) n

@@ -1,10 +1,13 @@
-use Rattle.std.proofs.Common.{◌≡◌, ◌-◌, ◌≤◌, length}
+use Rattle.std.proofs.Common.{◌≡◌, ◌*◌, ◌≤◌, length, drop}
 use Rattle.hash.specs.Digest.{absorbed}
 use Rattle.hash.specs.Sha256.{sha_256}
 use Rattle.hash.proofs.chunk.absorb.Given as goal
 
-abbrev pub invariant-loop-i : goal.invariant-loop-i
-invariant-loop-i l = (l.i ≤ l.count) × (length l.w ≡ 16) × (l.value ≡ absorbed sha_256 l.initial.value l.s l.i)
-
-abbrev pub decreases-loop-i : goal.decreases-loop-i
-decreases-loop-i l = l.count - l.i
+abbrev pub invariant-loop-chunk : goal.invariant-loop-chunk
+invariant-loop-chunk l =
+    record {
+      size : l.chunk-iterator.size ≡ 64;
+      within : 64 * length l.yielded ≤ length l.s;
+      rest : l.chunk-iterator.rest.now ≡ drop (64 * length l.yielded) l.s;
+      so_far : l.value ≡ absorbed sha_256 l.initial.value l.s (length l.yielded);
+    }

@@ -5,4 +5,4 @@ use Rattle.hash.proofs.round.second_sum.Goals as goal
 
 pub returns : goal.returns
 unfolding plus T₂ sha_256
-returns c = rw (c.wrapping_add_u32.ensures.value, c.maj.ensures, c.upper_sigma_0.ensures)
+returns c = rw (c.maj.ensures, c.upper_sigma.ensures)

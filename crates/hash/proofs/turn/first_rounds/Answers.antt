@@ -1,25 +1,19 @@
-use Rattle.std.proofs.Common.{◌≡◌, ◌+◌, refl, zero-add, arith, rules}
+use Rattle.std.proofs.Common.{◌≡◌, ◌+◌, ◌*◌, zero-add, arith, rules}
 use Rattle.hash.specs.Sha256.{sha_256}
 use Rattle.hash.specs.Turns.{turn, steps}
 use Rattle.hash.proofs.Steps.{steps_then}
 use Rattle.hash.proofs.turn.first_rounds.Goals as goal
 
-pub loop-t-init : goal.loop-t-init
+pub loop-i-init : goal.loop-i-init
 unfolding steps
-loop-t-init c = search rules
+loop-i-init c = search rules
 
-pub loop-t-preserved : goal.loop-t-preserved
-loop-t-preserved c =
-    let l = c.loop-t in
-    let f = c.sixteen_turns-state in (
-      omega arith,
-      omega arith,
-      omega (arith, f.auto.w),
-      steps_then (turn sha_256) _ _ _ 0 l.t 16 l.t (l.t + 16) (zero-add l.t) refl l.invariant.3 f.ensures,
-    )
+pub loop-i-preserved : goal.loop-i-preserved
+loop-i-preserved c =
+    let t = 16 * c.loop-i.i in
+    steps_then (turn sha_256) _ _ _ 0 t 16 t (16 * (c.loop-i.i + 1)) (zero-add t) (omega arith) c.loop-i.invariant c.sixteen_turns-state.ensures
 
 pub returns : goal.returns
 returns c =
-    let l = c.loop-t in
-    let e : l.t ≡ 48 = omega arith in
-    rw e at l.invariant.3
+    let e : c.loop-i.i ≡ 3 = omega arith in
+    rw e at c.loop-i.invariant

@@ -1,15 +1,23 @@
-use Rattle.std.proofs.Common.{ℕ}
-use Rattle.hash.specs.Rounds.{Eight}
+use Rattle.std.proofs.Common.{◌≡◌, ◌+◌, ◌-◌, arith}
 use Rattle.hash.specs.Sha256.{sha_256}
-use Rattle.hash.specs.Turns.{reads}
-use Rattle.hash.proofs.Steps.{first_step, step_then}
+use Rattle.hash.specs.Turns.{reads, steps}
+use Rattle.hash.proofs.Steps.{first_step, steps_then}
 use Rattle.hash.proofs.turn.four_rounds.Goals as goal
+
+pub loop-u-init : goal.loop-u-init
+unfolding steps
+loop-u-init c =
+    let e : c.args.t - c.args.t ≡ 0 = omega arith in
+    rw e
+
+pub loop-u-preserved : goal.loop-u-preserved
+loop-u-preserved c =
+    let u = c.loop-u.u in
+    let t = c.args.t in
+    let f = reads sha_256 c.args.w.now in
+    steps_then f _ _ _ t (u - t) 1 u (u + 1 - t) (omega arith) (omega arith) c.loop-u.invariant (first_step f _ _ u c.round_at-state.ensures)
 
 pub returns : goal.returns
 returns c =
-    let second = c in
-    let f : Eight → ℕ → Eight = reads sha_256 second.args.w.now in
-    let one = first_step f _ _ _ second.round_at-s1.ensures in
-    let two = step_then f _ _ _ _ 1 one second.round_at-s2.ensures in
-    let three = step_then f _ _ _ _ 2 two c.round_at-s3.ensures in
-    step_then f _ _ _ _ 3 three c.round_at.ensures
+    let e : c.loop-u.u - c.args.t ≡ 4 = omega arith in
+    rw e at c.loop-u.invariant

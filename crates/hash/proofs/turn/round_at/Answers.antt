@@ -6,7 +6,7 @@ use Rattle.hash.proofs.Table.{constants-length}
 use Rattle.hash.proofs.turn.round_at.Goals as goal
 
 pub bounds-k-t : goal.bounds-k-t
-bounds-k-t c = omega (arith, ap length c.requires.2, constants-length)
+bounds-k-t c = omega (arith, ap length c.requires.1, constants-length)
 
 pub returns : goal.returns
 unfolding reads sha_256
@@ -14,4 +14,4 @@ returns c =
     let start = c in
     let a = start.args in
     c.one_round.ensures
-    ∙ ap (λ (l : List ℕ). round sha_256 (eight a.s) (get_or l a.t 0) (get_or a.w.now (a.t % 16) 0)) start.requires.2
+    ∙ ap (λ (l : List ℕ). round sha_256 (eight a.s) (get_or l a.t 0) (get_or a.w.now (a.t % 16) 0)) start.requires.1

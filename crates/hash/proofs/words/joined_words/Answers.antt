@@ -10,14 +10,11 @@ loop-i-init c = search rules
 pub loop-i-preserved : goal.loop-i-preserved
 loop-i-preserved c =
     let l = c.loop-i in
-    let p = c.put_word in (
-      omega arith,
-      omega (arith, p.auto.s),
-      ap (take (4 * (l.i + 1))) p.ensures ∙ joined_stored c.args.h l.out l.i (omega arith) l.invariant.2,
-    )
+    let p = c.put_word in
+    (omega (arith, p.auto.s), ap (take (4 * (l.i + 1))) p.ensures ∙ joined_stored c.args.h l.out l.i (omega arith) l.invariant.1)
 
 pub returns : goal.returns
 returns c =
     let l = c.loop-i in
     let e : l.i ≡ 8 = omega arith in
-    sym (take_all 32 l.out (omega arith)) ∙ rw e at l.invariant.2
+    sym (take_all 32 l.out (omega arith)) ∙ rw e at l.invariant.1
