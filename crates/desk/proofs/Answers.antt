@@ -5,9 +5,8 @@ use mathlib.Core.List.{List}
 use Prim.Native.Nat.{ℕ}
 use Rattle.refusals.specs.{accepted}
 use Rattle.octets.specs.Layouts.{holds}
-use Rattle.statement.specs.declared.Reading.{Reading}
 use Rattle.statement.specs.Cut.{cut_statement}
-use Rattle.statement.specs.Layout.{statement_layout, reading}
+use Rattle.statement.specs.Layout.{Reading, statement_layout, reading}
 use Rattle.statement.proofs.StatementTrips.{reading-holds, reading_cut}
 
 module _ (s : List ℕ) (r : Reading) (e : r ≡ reading s) where

@@ -7,7 +7,7 @@ ghost use Rattle.desk.specs.Asked.{asked_with};
 
 use crate::Question;
 use octets::is_same;
-use statement::{DIGEST, NEW, READ, RECEIPT_SIZE, Statement, kind_number, read_statement};
+use statement::{DIGEST, NEW, READ, RECEIPT_SIZE, Statement, read_statement};
 
 // Where the nonce of a read statement stands, up to its end: behind what every receipt has.
 const NONCE_PLACE: usize = RECEIPT_SIZE;
@@ -36,12 +36,10 @@ pub fn is_asked_for(question: Question, digest: [u8; DIGEST], s: &[u8]) -> bool
     if !is_askable(question.kind) {
         return false;
     }
-    let reading = read_statement(s);
-    if reading.answer != refusals::ACCEPTED {
-        return false;
+    match read_statement(s) {
+        Ok(v) => v.kind.number() == question.kind && is_of(v, question, digest),
+        Err(_) => false,
     }
-    let v = reading.statement;
-    kind_number(v.kind) == question.kind && is_of(v, question, digest)
 }
 
 // Whether a reading was asked for and the string has not this nonce; whatever else was asked for.

@@ -77,8 +77,11 @@ pub fn verdict_with(
     if let Err(refusal) = check_verdict(question, rack, digest, s, signers) {
         return Finding::from(refusal);
     }
-    let reading = read_statement(s);
-    let Statement { kind, tail, .. } = reading.statement;
+    let statement = match read_statement(s) {
+        Ok(statement) => statement,
+        Err(refusal) => return Finding::from(refusal),
+    };
+    let Statement { kind, tail, .. } = statement;
     Finding {
         number: refusals::ACCEPTED,
         tail,

@@ -16,7 +16,6 @@ use Rattle.rack.specs.Promise.{Taken, taken, reading}
 use Rattle.rows.specs.Sizes.{most_rows, row_bytes, table_bytes}
 use Rattle.roll.specs.Roll as roll
 use Rattle.roll.specs.Roll.{Reading, roll_layout, outcome}
-use Rattle.statement.specs.declared.Reading as statement
 use Rattle.statement.specs.Cut.{blank_statement, cut_statement}
 use Rattle.statement.specs.Layout as layout
 use Rattle.statement.specs.Layout.{statement_layout}
@@ -24,7 +23,7 @@ use Rattle.table.specs.Flat.{row_cut, rows_of}
 use Rattle.interface.specs.declared.RackRead.{RackRead}
 use Rattle.interface.specs.declared.RollRead.{RollRead}
 use Rattle.interface.specs.declared.StatementRead.{StatementRead}
-use Rattle.interface.specs.Contents.{places_of, plain_of}
+use Rattle.interface.specs.Contents.{places_of, plain_of, no_plain}
 use Rattle.interface.specs.Calls.{rack_given, reading_rack, no_row, roll_given, reading_roll, statement_given, reading_statement}
 use Rattle.interface.proofs.Mapped.{mapped_same}
 
@@ -60,10 +59,10 @@ pub roll_taken : (s : List ℕ) (t : Reading) → t ≡ roll.reading_roll s (rep
 unfolding roll.reading_roll reading_roll
 roll_taken s t e = ap roll_as e ∙ roll_is (read roll_layout s) (replicate table_bytes 0) (zero_rows most_rows table_bytes refl)
 
-abbrev statement_as : statement.Reading → StatementRead
+abbrev statement_as : layout.Reading → StatementRead
 statement_as t = record { number = t.answer; statement = plain_of t.statement }
 
-pub statement_taken : (s : List ℕ) (t : statement.Reading) → t ≡ layout.reading s → statement_as t ≡ reading_statement s
+pub statement_taken : (s : List ℕ) (t : layout.Reading) → t ≡ layout.reading s → statement_as t ≡ reading_statement s
 unfolding layout.reading blank_statement read plain_of statement_given reading_statement
 statement_taken s t e = ap statement_as e ∙ go (holds statement_layout s)
   where
@@ -73,3 +72,8 @@ statement_taken s t e = ap statement_as e ∙ go (holds statement_layout s)
         ≡ statement_given (cond h (some (cut_statement s)) none)
     go true = refl
     go false = refl
+
+-- what C gets of no statement
+pub blank_plain : plain_of blank_statement ≡ no_plain
+unfolding blank_statement plain_of
+blank_plain = refl

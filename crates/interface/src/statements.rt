@@ -1,11 +1,11 @@
 // Statements.
 ghost use Rattle.std.specs.Prelude.{◌≡◌};
-ghost use Rattle.interface.specs.Contents.{plain_of, statement_of};
+ghost use Rattle.interface.specs.Contents.{no_plain, plain_of, statement_of};
 ghost use Rattle.interface.specs.Calls.{reading_statement, writing_statement};
 
 use crate::kinds::{kind_of, nonce_in};
-use crate::{Plain, StatementRead, Written};
-use statement::Statement;
+use crate::{NONCE, Plain, StatementRead, Written};
+use statement::{DIGEST, LABEL, Statement};
 
 fn plain_of(v: Statement) -> Plain
     ensures { result ≡ plain_of v }
@@ -19,7 +19,7 @@ fn plain_of(v: Statement) -> Plain
     let tail = v.tail;
     let nonce = nonce_in(kind);
     Plain {
-        kind: statement::kind_number(kind),
+        kind: kind.number(),
         identity,
         own,
         other,
@@ -28,6 +28,22 @@ fn plain_of(v: Statement) -> Plain
         tail,
         nonce,
         height: desk::height_in(kind),
+    }
+}
+
+fn no_plain() -> Plain
+    ensures { result ≡ no_plain }
+{
+    Plain {
+        kind: 0,
+        identity: [0; DIGEST],
+        own: [0; DIGEST],
+        other: [0; DIGEST],
+        roll: [0; DIGEST],
+        label: [0; LABEL],
+        tail: [0; DIGEST],
+        nonce: [0; NONCE],
+        height: 0,
     }
 }
 
@@ -58,12 +74,15 @@ fn statement_of(p: Plain) -> Statement
 pub extern "C" fn mahqurith_read_statement(bytes: &[u8]) -> StatementRead
     ensures { result ≡ reading_statement bytes.now }
 {
-    let reading = statement::read_statement(bytes);
-    let v = reading.statement;
-    let plain = plain_of(v);
-    StatementRead {
-        number: reading.answer,
-        statement: plain,
+    match statement::read_statement(bytes) {
+        Ok(v) => StatementRead {
+            number: refusals::ACCEPTED,
+            statement: plain_of(v),
+        },
+        Err(refusal) => StatementRead {
+            number: refusal.number(),
+            statement: no_plain(),
+        },
     }
 }
 
@@ -73,9 +92,14 @@ pub extern "C" fn mahqurith_write_statement(statement: Plain, area: &mut [u8]) -
     ensures { record { answer = result.number; count = result.written; area = area.new } ≡ writing_statement statement area.old }
 {
     let v = statement_of(statement);
-    let written = statement::write_statement(v, area);
-    Written {
-        number: written.answer,
-        written: written.count,
+    match statement::write_statement(v, area) {
+        Ok(written) => Written {
+            number: refusals::ACCEPTED,
+            written,
+        },
+        Err(refusal) => Written {
+            number: refusal.number(),
+            written: 0,
+        },
     }
 }

@@ -1,8 +1,8 @@
 -- A fitting statement is cut out of what it is written as. Assumes nothing.
 use mathlib.Core.Path.{◌≡◌, refl, sym, ap, ◌∙◌}
-use mathlib.Core.Bool.{Bool, true, false, not, ◌&&◌}
+use mathlib.Core.Bool.{Bool, true, false, ◌&&◌}
 use mathlib.Core.List.{List, ◌∷◌, ◌++◌, append_assoc}
-use Prim.Native.Nat.{ℕ, zero, ◌+◌, ◌<◌, ◌^◌}
+use Prim.Native.Nat.{ℕ, ◌+◌, ◌<◌, ◌^◌}
 use native.Mathlib.Omega.{arith}
 use lib.ListN.{length, drop, length-append}
 use lib.Dec.{leb, lit<}

@@ -1,20 +1,17 @@
 -- Fields of a string, one behind the other: taken out of it, and put together again. Assumes nothing.
-use mathlib.Core.Path.{◌≡◌, refl, sym, ap, ap₂, ◌∙◌}
+use mathlib.Core.Path.{◌≡◌, refl, sym, ap, ◌∙◌}
 use mathlib.Core.Bool.{true}
-use mathlib.Core.List.{List, [], ◌∷◌, ◌++◌, append_assoc, append-nil}
-use Prim.Native.Nat.{ℕ, zero, suc, ◌+◌, ◌≤◌, ◌<◌}
+use mathlib.Core.List.{List, [], ◌∷◌, ◌++◌, append_assoc}
+use Prim.Native.Nat.{ℕ, suc, ◌+◌, ◌≤◌, ◌<◌}
 use native.Mathlib.Omega.{arith}
-use native.Mathlib.Nat.{add-zero}
 use native.Mathlib.Numerals.{add-one}
-use borrow.Author.Tests.{eqb-true}
 use lib.ListN.{length, take, drop, set, replicate, take-append-drop, length-append, length-drop}
 use lib.Seq.{drop-drop, drop_at, take_at, set_split, length-take-le}
-use lib.Dec.{eqb}
 use Rattle.octets.specs.Strings.{put, all_zero}
 use Rattle.octets.specs.Numbers.{number_of, bytes_of}
 use Rattle.octets.proofs.Exact.{Octets, octets_take, octets_drop, bytes_number}
 use Rattle.octets.proofs.Puts.{put_all, put-put}
-use Rattle.octets.proofs.RoundTrips.{and_left, and_right}
+use Rattle.octets.proofs.Zeros.{zero_is as zeros_of}
 
 -- the field that a place begins with, and what stands behind it
 pub here : (w a q : List ℕ) (i n : ℕ) → drop i w ≡ a ++ q → length a ≡ n → take n (drop i w) ≡ a
@@ -35,27 +32,16 @@ number_field s i n o h =
     ap (λ (k : ℕ). bytes_of k (number_of (take n (drop i s)))) (sym l)
     ∙ bytes_number (take n (drop i s)) (octets_take n (drop i s) (octets_drop i s o))
 
-zeros : (s : List ℕ) → all_zero s ≡ true → s ≡ replicate (length s) 0
-unfolding all_zero
-zeros [] e = refl
-zeros (b ∷ s) e =
-    ap₂ (λ (x : ℕ) (l : List ℕ). x ∷ l) (eqb-true b 0 (and_left (eqb b 0) (all_zero s) e)) (zeros s (and_right (eqb b 0) (all_zero s) e))
-
 -- a string that is all zero, by its length
 pub zero_is : (s : List ℕ) (n : ℕ) → length s ≡ n → all_zero s ≡ true → s ≡ replicate n 0
-zero_is s n l e = zeros s e ∙ ap (λ (k : ℕ). replicate k 0) l
+zero_is s n l e = zeros_of s e ∙ ap (λ (k : ℕ). replicate k 0) l
 
 -- a store is a string of one byte put in place
 pub set-put : (d : List ℕ) (i x : ℕ) → i < length d → set d i x ≡ put d i (x ∷ [])
 unfolding put
 set-put d i x h = rw (add-one i) (set_split d i x h ∙ sym (append_assoc (take i d) (x ∷ []) (drop (suc i) d)))
 
--- nothing put anywhere
-pub put_nil : (d : List ℕ) (at : ℕ) → put d at [] ≡ d
-unfolding put
-put_nil d at = rw (add-zero at, append-nil (take at d)) (take-append-drop at d)
-
--- a part of a string over all of another
+-- a part of a string over all of another; it goes when night has left it
 pub put_part : (d s : List ℕ) (at n k : ℕ) → k ≡ n → at + n ≤ length s → length d ≡ n → put d 0 (take k (drop at s)) ≡ take n (drop at s)
 put_part d s at n k e h l =
     ap (λ (i : ℕ). put d 0 (take i (drop at s))) e

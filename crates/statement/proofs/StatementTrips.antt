@@ -10,16 +10,15 @@ use borrow.Author.Tests.{le-ltb}
 use lib.ListN.{length, take}
 use lib.Dec.{ltb}
 use Rattle.refusals.specs.{accepted, statement_not_asked}
-use Rattle.octets.specs.Strings.{put, same}
+use Rattle.octets.specs.Strings.{put}
 use Rattle.octets.specs.Layouts.{holds, read, Written, unwritten, writing}
 use Rattle.octets.proofs.Puts.{take_put}
 use Rattle.octets.proofs.RoundTrips.{same_refl, written_reads, read_writes, holds_fits, holds-written}
 use Rattle.statement.specs.declared.Statement.{Statement}
-use Rattle.statement.specs.declared.Reading.{Reading}
 use Rattle.statement.specs.Kinds.{size}
 use Rattle.statement.specs.Contents.{statement_written, statement_fits}
 use Rattle.statement.specs.Cut.{cut_statement, blank_statement}
-use Rattle.statement.specs.Layout.{statement_layout, reading}
+use Rattle.statement.specs.Layout.{Reading, statement_layout, reading}
 use Rattle.statement.specs.Shape.{Arrays, Shaped}
 use Rattle.statement.proofs.Cuts.{cut_written}
 use Rattle.statement.proofs.Records.{fits_kind, written_length}

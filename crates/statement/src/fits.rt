@@ -6,43 +6,33 @@ use crate::{Kind, Statement};
 use octets::is_zero;
 use rows::row_holds;
 
-// A new, append or read statement: a row at a height, and no second or third digest.
-fn receipt_fits(v: Statement, height: u64) -> bool
-    ensures { result ≡ receipt_fits v height }
-{
-    let label = v.label;
-    let tail = v.tail;
-    let other = v.other;
-    let roll = v.roll;
-    if !row_holds(&label, &tail, height) {
-        return false;
+impl Statement {
+    // A new, append or read statement: a row at a height, and no second or third digest.
+    #[tactic(auto, unfolding(crate::specs::Contents::receipt_fits))]
+    fn receipt_fits(self, height: u64) -> bool
+        ensures { result ≡ receipt_fits self height }
+    {
+        row_holds(&self.label, &self.tail, height) && is_zero(&self.other) && is_zero(&self.roll)
     }
-    is_zero(&other) && is_zero(&roll)
-}
 
-// A finalise or initialise statement: no label and no tail.
-fn handover_fits(v: Statement) -> bool
-    ensures { result ≡ handover_fits v }
-{
-    let label = v.label;
-    let tail = v.tail;
-    is_zero(&label) && is_zero(&tail)
-}
+    // A finalise or initialise statement: no label and no tail.
+    #[tactic(auto, unfolding(crate::specs::Contents::handover_fits))]
+    fn handover_fits(self) -> bool
+        ensures { result ≡ handover_fits self }
+    {
+        is_zero(&self.label) && is_zero(&self.tail)
+    }
 
-pub fn fits(v: Statement) -> bool
-    ensures { result ≡ statement_fits v }
-{
-    let kind = v.kind;
-    match kind {
-        Kind::Blank => false,
-        Kind::New => receipt_fits(v, 0),
-        Kind::Append { height } => 1 <= height && receipt_fits(v, height),
-        Kind::Read {
-            height,
-            nonce_high: _,
-            nonce_low: _,
-        } => receipt_fits(v, height),
-        Kind::Finalise => handover_fits(v),
-        Kind::Initialise => handover_fits(v),
+    #[tactic(auto, unfolding(crate::specs::Contents::fits_as, crate::specs::Contents::statement_fits))]
+    pub fn fits(self) -> bool
+        ensures { result ≡ statement_fits self }
+    {
+        match self.kind {
+            Kind::Blank => false,
+            Kind::New => self.receipt_fits(0),
+            Kind::Append { height } => 1 <= height && self.receipt_fits(height),
+            Kind::Read { height, .. } => self.receipt_fits(height),
+            Kind::Finalise | Kind::Initialise => self.handover_fits(),
+        }
     }
 }

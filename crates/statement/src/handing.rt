@@ -14,14 +14,12 @@ pub fn handover_statement(
 ) -> Statement
     ensures { result ≡ handover_of kind identity own other roll }
 {
-    let label = [0u8; LABEL];
-    let tail = [0u8; DIGEST];
     Statement {
         kind,
         identity,
         own,
-        label,
-        tail,
+        label: [0; LABEL],
+        tail: [0; DIGEST],
         other,
         roll,
     }

@@ -48,38 +48,30 @@ pub const NONCE_PLACE: usize = HEIGHT_PLACE + NUMBER;
 
 pub const NONCE_HALF: usize = NONCE_PLACE + NUMBER;
 
-// The number of a kind; 0 for no statement.
-pub fn kind_number(kind: Kind) -> u8
-    ensures { result ≡ kind_number kind }
-{
-    match kind {
-        Kind::Blank => 0,
-        Kind::New => NEW,
-        Kind::Append { height: _ } => APPEND,
-        Kind::Read {
-            height: _,
-            nonce_high: _,
-            nonce_low: _,
-        } => READ,
-        Kind::Finalise => FINALISE,
-        Kind::Initialise => INITIALISE,
+impl Kind {
+    // Its number; 0 for no statement.
+    pub fn number(self) -> u8
+        ensures { result ≡ kind_number self }
+    {
+        match self {
+            Kind::Blank => 0,
+            Kind::New => NEW,
+            Kind::Append { .. } => APPEND,
+            Kind::Read { .. } => READ,
+            Kind::Finalise => FINALISE,
+            Kind::Initialise => INITIALISE,
+        }
     }
-}
 
-// The bytes of a statement of a kind; 0 for no statement.
-pub fn size_of(kind: Kind) -> usize
-    ensures { result ≡ size kind }
-{
-    match kind {
-        Kind::Blank => 0,
-        Kind::New => RECEIPT_SIZE,
-        Kind::Append { height: _ } => RECEIPT_SIZE,
-        Kind::Read {
-            height: _,
-            nonce_high: _,
-            nonce_low: _,
-        } => READING_SIZE,
-        Kind::Finalise => HANDOVER_SIZE,
-        Kind::Initialise => HANDOVER_SIZE,
+    // The bytes of a statement of it; 0 for no statement.
+    pub fn size(self) -> usize
+        ensures { result ≡ size self }
+    {
+        match self {
+            Kind::Blank => 0,
+            Kind::New | Kind::Append { .. } => RECEIPT_SIZE,
+            Kind::Read { .. } => READING_SIZE,
+            Kind::Finalise | Kind::Initialise => HANDOVER_SIZE,
+        }
     }
 }

@@ -8,21 +8,23 @@ mod kinds;
 mod put;
 
 ghost use Rattle.std.specs.Prelude.{◌≡◌};
+ghost use Rattle.std.specs.Result.{result_unwrap_or};
 ghost use Rattle.refusals.specs.{statement_not_asked};
+ghost use Rattle.refusals.specs.Refused.{answer_of};
 ghost use Rattle.octets.specs.Layouts.{writing};
+ghost use Rattle.statement.specs.Cut.{blank_statement};
 ghost use Rattle.statement.specs.Layout.{statement_layout, reading};
 
-use cut::{blank, cut};
-use fits::fits;
+use cut::cut;
 pub use handing::handover_statement;
 pub use kinds::{
     APPEND, DIGEST, FINALISE, HANDOVER_SIZE, INITIALISE, LABEL, NEW, NUMBER, READ, READING_SIZE,
-    RECEIPT_SIZE, kind_number, size_of,
+    RECEIPT_SIZE,
 };
-use octets::Written;
-use put::put_statement;
+use refusals::Refusal;
 
-// The last part of a statement, which depends on its kind. Blank is no statement.
+// The last part of a statement, which depends on its kind. Blank is no statement; it stays, since `blank_statement` and the contract of `mahqurith_read_statement`
+// speak of it.
 #[derive(Clone, Copy)]
 pub enum Kind {
     Blank,
@@ -52,52 +54,29 @@ pub struct Statement {
     pub roll: [u8; DIGEST],
 }
 
-// The answer of a reading, and the statement: the blank one where the answer is a refusal.
-#[derive(Clone, Copy)]
-pub struct Reading {
-    pub answer: u32,
-    pub statement: Statement,
-}
-
 // Takes a statement apart.
-pub fn read_statement(s: &[u8]) -> Reading
-    ensures { result ≡ reading s.now }
+pub fn read_statement(s: &[u8]) -> Result<Statement, Refusal>
+    ensures { record { answer = answer_of result; statement = result_unwrap_or result blank_statement } ≡ reading s.now }
 {
     let statement = cut(s);
-    if fits(statement) {
-        return Reading {
-            answer: refusals::ACCEPTED,
-            statement,
-        };
-    }
-    let none = blank();
-    Reading {
-        answer: refusals::STATEMENT_NOT_ASKED,
-        statement: none,
+    if statement.fits() {
+        Ok(statement)
+    } else {
+        Err(Refusal::StatementNotAsked)
     }
 }
 
 // Writes a statement as the first bytes of an area.
-pub fn write_statement(v: Statement, area: &mut [u8]) -> Written
-    ensures { record { answer = result.answer; count = result.count; area = area.new } ≡ writing statement_layout statement_not_asked v area.old }
+pub fn write_statement(v: Statement, area: &mut [u8]) -> Result<usize, Refusal>
+    ensures { record { answer = answer_of result; count = result_unwrap_or result 0; area = area.new } ≡ writing statement_layout statement_not_asked v area.old }
 {
-    if !fits(v) {
-        return Written {
-            answer: refusals::STATEMENT_NOT_ASKED,
-            count: 0,
-        };
+    if !v.fits() {
+        return Err(Refusal::StatementNotAsked);
     }
-    let kind = v.kind;
-    let size = size_of(kind);
+    let size = v.kind.size();
     if area.len() < size {
-        return Written {
-            answer: refusals::AREA_TOO_SHORT,
-            count: 0,
-        };
+        return Err(Refusal::AreaTooShort);
     }
-    put_statement(v, area);
-    Written {
-        answer: refusals::ACCEPTED,
-        count: size,
-    }
+    v.put(area);
+    Ok(size)
 }

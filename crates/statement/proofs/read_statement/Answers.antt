@@ -1,12 +1,11 @@
-use mathlib.Core.Path.{◌≡◌, sym, ap, ◌∙◌}
+use mathlib.Core.Path.{◌≡◌, refl, sym, ap, ◌∙◌}
 use mathlib.Core.Bool.{true, false}
 use Prim.Native.Nat.{ℕ}
-use Rattle.refusals.specs.{accepted, statement_not_asked}
+use Rattle.refusals.specs.{accepted}
 use Rattle.octets.specs.Layouts.{holds}
 use Rattle.statement.specs.declared.Statement.{Statement}
-use Rattle.statement.specs.declared.Reading.{Reading}
 use Rattle.statement.specs.Contents.{statement_fits}
-use Rattle.statement.specs.Layout.{statement_layout, reading}
+use Rattle.statement.specs.Layout.{Reading, statement_layout, reading}
 use Rattle.statement.proofs.Held.{holds_is}
 use Rattle.statement.proofs.read_statement.Goals as goal
 
@@ -18,13 +17,13 @@ unfolding reading
 returns-then-fits c =
     let s = c.args.s.now in
     let h : holds statement_layout s ≡ true =
-    holds_is s (λ i. (c.shared_slice_known-1.given i).fits) ∙ ap statement_fits (sym c.cut-statement.ensures) ∙ sym c.fits.ensures ∙ c.if-fits.true in
+    holds_is s (λ i. (c.type_inv.s i).fits) ∙ ap statement_fits (sym c.cut-statement.ensures) ∙ sym c.fits.ensures ∙ c.if-fits.true in
     rw h (ap (answered accepted) c.cut-statement.ensures)
 
-pub returns : goal.returns
+pub returns-else-fits : goal.returns-else-fits
 unfolding reading
-returns c =
+returns-else-fits c =
     let s = c.args.s.now in
     let h : holds statement_layout s ≡ false =
-    holds_is s (λ i. (c.shared_slice_known-1.given i).fits) ∙ ap statement_fits (sym c.cut-statement.ensures) ∙ sym c.fits.ensures ∙ c.if-fits.false in
-    rw h (ap (answered statement_not_asked) c.blank-none.ensures)
+    holds_is s (λ i. (c.type_inv.s i).fits) ∙ ap statement_fits (sym c.cut-statement.ensures) ∙ sym c.fits.ensures ∙ c.if-fits.false in
+    rw h (refl)

@@ -36,18 +36,18 @@ unfolding writing unwritten
 returns-then-area-size c =
     let a = c.args in
     let t : ltb (length a.area.now) (length (statement_written a.v)) ≡ true =
-    lt-ltb (length a.area.now) (length (statement_written a.v)) (omega (arith, c.if-area-size.true, c.size_of-size.ensures, sized (goal.at.returns-then-area-size c).Else-not-fits)) in
+    lt-ltb (length a.area.now) (length (statement_written a.v)) (omega (arith, c.if-area-size.true, c.size-size.ensures, sized (goal.at.returns-then-area-size c).Else-not-fits)) in
     rw (fit (goal.at.returns-then-area-size c).Else-not-fits, t)
 
-pub put_statement-requires : goal.put_statement-requires
-put_statement-requires c = omega (arith, sized (goal.at.put_statement-requires c).Else-not-fits, c.if-area-size.false, c.size_of-size.ensures)
+pub put-requires : goal.put-requires
+put-requires c = omega (arith, sized (goal.at.put-requires c).Else-not-fits, c.if-area-size.false, c.size-size.ensures)
 
 pub returns : goal.returns
 unfolding writing unwritten
 returns c =
     let a = c.args in
     let d = c in
-    let n : d.size_of-size.result ≡ length (statement_written a.v) = d.size_of-size.ensures ∙ sym (sized (goal.at.returns c).Else-not-fits) in
+    let n : d.size-size.result ≡ length (statement_written a.v) = d.size-size.ensures ∙ sym (sized (goal.at.returns c).Else-not-fits) in
     let t : ltb (length a.area.now) (length (statement_written a.v)) ≡ false =
     le-ltb (length a.area.now) (length (statement_written a.v)) (omega (arith, c.if-area-size.false)) in
-    rw (fit (goal.at.returns c).Else-not-fits, t) (ap₂ wrote n c.put_statement.ensures)
+    rw (fit (goal.at.returns c).Else-not-fits, t) (ap₂ wrote n c.put.ensures)

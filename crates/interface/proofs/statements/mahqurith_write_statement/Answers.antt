@@ -6,8 +6,15 @@ use Rattle.statement.specs.Layout.{statement_layout}
 use Rattle.interface.specs.Calls.{writing_statement}
 use Rattle.interface.proofs.statements.mahqurith_write_statement.Goals as goal
 
-pub returns : goal.returns
+pub returns-in-Ok : goal.returns-in-Ok
 unfolding writing_statement
-returns c =
+returns-in-Ok c =
     let a = c.args in
-    c.write_statement-written.ensures ∙ ap (λ (v : Statement). writing statement_layout statement_not_asked v a.area.now) c.statement_of-v.ensures
+    c.in-Ok.ensures ∙ ap (λ (v : Statement). writing statement_layout statement_not_asked v a.area.now) c.statement_of-v.ensures
+
+pub returns-in-Err : goal.returns-in-Err
+unfolding writing_statement
+returns-in-Err c =
+    let a = c.args in
+    rw c.number.ensures
+    (c.in-Err.ensures ∙ ap (λ (v : Statement). writing statement_layout statement_not_asked v a.area.now) c.statement_of-v.ensures)
