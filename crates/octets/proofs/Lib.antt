@@ -9,6 +9,7 @@ pub mod Orders
 pub mod Parts
 pub mod Pieces
 pub mod Puts
+pub mod Rests
 pub mod RoundTrips
 pub mod Writings
 pub mod Zeros
