@@ -2,9 +2,13 @@
 use mathlib.Core.Path.{◌≡◌, refl, sym, ap, ◌∙◌}
 use mathlib.Core.Bool.{Bool, true, false, ◌&&◌}
 use mathlib.Core.List.{List}
-use Prim.Native.Nat.{ℕ, ◌<◌}
+use Prim.Native.Nat.{ℕ, ◌+◌, ◌<◌, ◌≤◌}
 use native.Mathlib.Omega.{arith}
+use borrow.Author.Tests.{eqb-true, eqb-false}
 use lib.Dec.{eqb}
+use Rattle.std.specs.Prelude.{Option, Some, None}
+use Rattle.std.specs.Bool.{then_some}
+use Rattle.std.specs.Int.{from_bool}
 use Rattle.octets.proofs.RoundTrips.{and_left, holds_fits}
 use Rattle.rows.specs.Table.{each, rows_fit}
 use Rattle.rows.proofs.Tables.{and_false, each_fails}
@@ -13,7 +17,7 @@ use Rattle.rules.specs.Bundle.{old_roll, list_at, list_of, added, digests}
 use Rattle.rules.specs.Derivation.{no_more, roll_of, roll_derived}
 use Rattle.rules.proofs.Somes.{each_same}
 use Rattle.bundle.proofs.Places.{new_some, new_before_lists}
-use Rattle.derivation.specs.Walk.{passed, met, derived_from}
+use Rattle.derivation.specs.Walk.{after, passed, met, derived_from}
 use Rattle.derivation.proofs.Walks.{all_passed, met_has, met_derives, passes_all}
 use Rattle.handover.specs.Asked.{roll_held, led, led_to, keeps}
 
@@ -26,6 +30,18 @@ walked ours old s i r =
 -- the row of an old roll that is next has the label of row r of ours, and old entry i lists no digests for it
 abbrev pub keeps_next : Roll → Roll → List ℕ → ℕ → ℕ → Bool
 keeps_next ours old s i r = met old ours.rows r && eqb (added s (list_of ours.count i r)) 0
+
+no_some : (n : ℕ) → ◌≡◌ {A = Option ℕ} None (Some n) → ⊥
+no_some n e = cc
+
+some_is : (n m : ℕ) → ◌≡◌ {A = Option ℕ} (Some n) (Some m) → n ≡ m
+some_is n m e = cc
+
+-- the walk goes on by one where the row is there
+pub one_on : (t : Bool) (q n : ℕ) → n ≡ from_bool t → (n ≤ 1) × (q + n ≡ after q t)
+unfolding after
+one_on true q n e = let z : n ≡ 1 = e in (omega arith, omega arith)
+one_on false q n e = let z : n ≡ 0 = e in (omega arith, omega arith)
 
 module _ (ours : Roll) (s : List ℕ) (i : ℕ) where
   pub more_labels : no_more ours (roll_of s i) ≡ false → roll_derived ours s i ≡ false
@@ -40,29 +56,23 @@ module _ (ours : Roll) (s : List ℕ) (i : ℕ) where
   unfolding roll_derived
   rows_lead n e = rw (n, e)
 
-  pub led_nowhere : roll_derived ours s i ≡ false → led_to ours s i ≡ 0
+  pub led_by : (d : Bool) → roll_derived ours s i ≡ d → led_to ours s i ≡ then_some d (list_at s (list_of ours.count i ours.count))
   unfolding led_to
-  led_nowhere e = rw e
+  led_by d e = rw e
 
-  pub led_on : roll_derived ours s i ≡ true → led_to ours s i ≡ list_at s (list_of ours.count i ours.count)
-  unfolding led_to
-  led_on e = rw e
-
-  -- no list begins at 0
-  pub nowhere_led : led_to ours s i ≡ 0 → roll_derived ours s i ≡ false
-  nowhere_led e = go (roll_derived ours s i) refl
+  pub led_none : None ≡ led_to ours s i → roll_derived ours s i ≡ false
+  led_none e = go (roll_derived ours s i) refl
     where
-      go : (t : Bool) → roll_derived ours s i ≡ t → roll_derived ours s i ≡ false
-      go false d = d
-      go true d =
-          absurd (omega (arith, sym (led_on d) ∙ e, new_some s, new_before_lists s (list_of ours.count i ours.count)))
+      go : (d : Bool) → roll_derived ours s i ≡ d → d ≡ false
+      go false f = refl
+      go true f = absurd (no_some _ (e ∙ led_by true f))
 
-  pub somewhere_led : (led_to ours s i ≡ 0 → ⊥) → roll_derived ours s i ≡ true
-  somewhere_led n = go (roll_derived ours s i) refl
+  pub led_some : (end : ℕ) → Some end ≡ led_to ours s i → (roll_derived ours s i ≡ true) × (end ≡ list_at s (list_of ours.count i ours.count))
+  led_some end e = go (roll_derived ours s i) refl
     where
-      go : (t : Bool) → roll_derived ours s i ≡ t → roll_derived ours s i ≡ true
-      go true d = d
-      go false d = absurd (n (led_nowhere d))
+      go : (d : Bool) → roll_derived ours s i ≡ d → (roll_derived ours s i ≡ true) × (end ≡ list_at s (list_of ours.count i ours.count))
+      go true f = (f, some_is _ _ (e ∙ led_by true f))
+      go false f = absurd (no_some _ (sym (e ∙ led_by false f)))
 
   -- where both rolls are in label order
   module _ (fit : rows_fit ours.count ours.rows ≡ true) (held : roll_held s i ≡ true) where
@@ -96,6 +106,16 @@ module _ (ours : Roll) (s : List ℕ) (i : ℕ) where
         (sym
         (each_same (walked ours (roll_of s i) s i) (led ours (roll_of s i) s i) ours.count (λ r h. met_derives (roll_of s i) ours old_fit fit p r h _ _))
         ∙ e)
+
+    -- where each step leads on, the walk's end decides
+    pub ends_decide :
+        each (walked ours (roll_of s i) s i) ours.count ≡ true
+        → eqb (passed (roll_of s i) ours.rows ours.count) (roll_of s i).count ≡ roll_derived ours s i
+    ends_decide e = go (eqb (passed (roll_of s i) ours.rows ours.count) (roll_of s i).count) refl
+      where
+        go : (b : Bool) → eqb (passed (roll_of s i) ours.rows ours.count) (roll_of s i).count ≡ b → b ≡ roll_derived ours s i
+        go true t = sym (walk_leads (eqb-true _ _ t) e)
+        go false t = sym (end_fails (eqb-false _ _ t))
 
     pub walk_keeps : roll_derived ours s i ≡ true → (r : ℕ) → r < ours.count → keeps_next ours (roll_of s i) s i r ≡ keeps ours (roll_of s i) s i r
     unfolding roll_derived

@@ -1,5 +1,7 @@
 -- What the functions behind Activate and Bytes to check are asked for, and what they may count on.
 use Rattle.std.specs.Prelude.{◌≡◌, Bool, true, false, not, cond, ◌&&◌, ◌||◌, List, [], ◌∷◌, ◌++◌, ℕ, ◌*◌, ◌<◌, ◌≤◌, length, get_or, eqb, ltb}
+use Rattle.std.specs.Prelude.{Option}
+use Rattle.std.specs.Bool.{then_some}
 use Rattle.refusals.specs.{rack_broken, digest_differs, list_broken}
 use Rattle.refusals.specs.Order.{Test, ◌⇒◌, first}
 use Rattle.octets.specs.Layouts.{holds}
@@ -58,9 +60,9 @@ pub record Shown (head : Head) (table previous own s : List ℕ) : Type 0 where
 abbrev pub led : Roll → Roll → List ℕ → ℕ → ℕ → Bool
 led ours old s i r = row_derived ours old r (digests s (list_of ours.count i r)) (added s (list_of ours.count i r))
 
--- where the lists of old entry i end, or 0 where ours is not derived from its roll
-unfoldable pub led_to : Roll → List ℕ → ℕ → ℕ
-led_to ours s i = cond (roll_derived ours s i) (list_at s (list_of ours.count i ours.count)) 0
+-- where the lists of old entry i end, where ours is derived from its roll
+unfoldable pub led_to : Roll → List ℕ → ℕ → Option ℕ
+led_to ours s i = then_some (roll_derived ours s i) (list_at s (list_of ours.count i ours.count))
 
 -- an old roll has row r of ours, and old entry i lists no digests for it
 abbrev pub keeps : Roll → Roll → List ℕ → ℕ → ℕ → Bool

@@ -7,10 +7,10 @@ ghost use Rattle.handover.specs.Asked.{Laid, Noted, roll_held, led_to};
 
 use crate::keeping::{all_kept, is_kept};
 use bundle::{LIST_HEAD, first_list, next_list, old_count, old_roll};
-use derivation::{after, is_next, is_through, row_derived};
+use derivation::{is_led_to, is_through, old_row};
 use rows::MOST;
 
-// Where the lists of old entry i end, which begin at a place, or 0 where ours is not derived from its roll; flags the rows that the entry keeps.
+// Where the lists of old entry i end, which begin at a place, where ours is derived from its roll; flags the rows that the entry keeps.
 fn roll_derived(
     table: &[u8],
     rows: usize,
@@ -18,7 +18,7 @@ fn roll_derived(
     i: usize,
     at: usize,
     kept: &mut [bool],
-) -> usize
+) -> Option<usize>
     requires { Laid rows s.now × (rows_fit rows table.now ≡ true) × (i < old_count s.now)
         × (roll_held s.now i ≡ true) × (at ≡ list_at s.now (rows * i)) × (rows ≤ length kept.old) }
     ensures { (result ≡ led_to (record { count = rows; rows = table.now }) s.now i)
@@ -28,22 +28,18 @@ fn roll_derived(
     let roll = old_roll(s, i);
     let mut place = at;
     let mut q = 0;
-    let mut r = 0;
-    while r < rows {
+    for r in 0..rows {
         let end = next_list(s, place);
-        let there = is_next(roll, q, table, r);
-        if !row_derived(table, r, roll, q, there, &s[place + LIST_HEAD..end]) {
-            return 0;
+        let old = old_row(roll, q, table, r);
+        if !is_led_to(table, r, roll, old, &s[place + LIST_HEAD..end]) {
+            return None;
         }
+        let there = old.is_some();
         kept[r] = is_kept(kept[r], there, s, place);
-        q = after(q, there);
+        q += usize::from(there);
         place = end;
-        r += 1;
     }
-    if !is_through(roll, q) {
-        return 0;
-    }
-    place
+    is_through(roll, q).then_some(place)
 }
 
 // Whether ours is derived from each old roll, and each row is kept by some.
@@ -52,15 +48,12 @@ pub fn derived(table: &[u8], rows: usize, s: &[u8]) -> bool
     ensures { result ≡ rule.derived (record { count = rows; rows = table.now }) s.now }
 {
     let mut kept = [false; MOST];
-    let count = old_count(s);
     let mut at = first_list(s);
-    let mut i = 0;
-    while i < count {
-        at = roll_derived(table, rows, s, i, at, &mut kept);
-        if at == 0 {
+    for i in 0..old_count(s) {
+        let Some(end) = roll_derived(table, rows, s, i, at, &mut kept) else {
             return false;
-        }
-        i += 1;
+        };
+        at = end;
     }
     all_kept(&kept, rows)
 }

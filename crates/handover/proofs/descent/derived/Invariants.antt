@@ -1,7 +1,7 @@
 use mathlib.Core.Path.{◌≡◌}
 use mathlib.Core.Bool.{Bool, true}
 use mathlib.Core.List.{List}
-use Prim.Native.Nat.{ℕ, ◌≤◌, ◌<◌, ◌-◌, ◌*◌}
+use Prim.Native.Nat.{ℕ, ◌<◌, ◌*◌}
 use lib.ListN.{length}
 use Rattle.rows.specs.Sizes.{most_rows}
 use Rattle.rows.specs.Table.{each}
@@ -16,12 +16,9 @@ abbrev pub kept_so_far : Roll → List ℕ → ℕ → ℕ → Bool
 kept_so_far ours s i r = some (λ j. keeps ours (roll_of s j) s j r) i
 
 abbrev pub invariant-loop-i : goal.invariant-loop-i
-invariant-loop-i l =
-    (l.i ≤ l.count)
-    × (each (roll_derived (record { count = l.rows; rows = l.table }) l.s) l.i ≡ true)
-    × (length l.kept ≡ most_rows)
-    × ((r : ℕ) → r < l.rows → flag l.kept r ≡ kept_so_far (record { count = l.rows; rows = l.table }) l.s l.i r)
-    × (l.at ≡ list_at l.s (l.rows * l.i))
-
-abbrev pub decreases-loop-i : goal.decreases-loop-i
-decreases-loop-i l = l.count - l.i
+invariant-loop-i l = record {
+  led : each (roll_derived (record { count = l.rows; rows = l.table }) l.s) l.i ≡ true;
+  long : length l.kept ≡ most_rows;
+  flagged : (r : ℕ) → r < l.rows → flag l.kept r ≡ kept_so_far (record { count = l.rows; rows = l.table }) l.s l.i r;
+  placed : l.at ≡ list_at l.s (l.rows * l.i)
+}
