@@ -5,4 +5,4 @@ mod growth;
 mod old;
 
 pub use growth::grown;
-pub use old::{after, is_led_to, is_next, is_through, old_row, row_derived};
+pub use old::{is_led_to, is_through, old_row};

@@ -9,7 +9,7 @@ ghost use Rattle.roll.specs.Roll.{roll_layout};
 ghost use Rattle.roll.specs.Places.{Spread};
 ghost use Rattle.statement.specs.Kinds.{digest_bytes};
 ghost use Rattle.rules.specs.Derivation.{grown};
-ghost use Rattle.derivation.specs.Walk.{is_next, after, derived_from};
+ghost use Rattle.derivation.specs.Walk.{is_next, derived_from};
 
 use crate::growth;
 use roll::{count_in, height_in, label_in, tail_in};
@@ -53,36 +53,4 @@ pub fn is_led_to(ours: &[u8], r: usize, roll: &[u8], old: Option<usize>, s: &[u8
         Some(q) => is_grown(ours, r, height_in(roll, q), tail_in(roll, q), s),
         None => is_grown(ours, r, 0, [0; TAIL], s),
     }
-}
-
-// TRANSITION: goes when handover has left it.
-pub fn is_next(roll: &[u8], q: usize, ours: &[u8], r: usize) -> bool
-    requires { Spread roll.now × (r < most_rows) × (length ours.now ≡ table_bytes) }
-    ensures { result ≡ is_next (roll_layout.cut roll.now) q (label_of ours.now r) }
-{
-    old_row(roll, q, ours, r).is_some()
-}
-
-// TRANSITION: goes when handover has left it.
-pub fn after(q: usize, there: bool) -> usize
-    requires { q ≤ most_rows }
-    ensures { result ≡ after q there }
-{
-    if there {
-        return q + 1;
-    }
-    q
-}
-
-// TRANSITION: goes when handover has left it.
-pub fn row_derived(ours: &[u8], r: usize, roll: &[u8], q: usize, there: bool, s: &[u8]) -> bool
-    requires { Spread roll.now × (r < most_rows) × (length ours.now ≡ table_bytes)
-        × (there ≡ true → q < (roll_layout.cut roll.now).count) }
-    ensures { result ≡ derived_from (roll_layout.cut roll.now) q there ours.now r
-        s.now (length s.now / digest_bytes) }
-{
-    if there {
-        return is_grown(ours, r, height_in(roll, q), tail_in(roll, q), s);
-    }
-    is_grown(ours, r, 0, [0u8; TAIL], s)
 }

@@ -16,7 +16,6 @@ use Rattle.roll.specs.Roll.{Roll, roll_layout}
 use Rattle.rules.specs.Bundle.{old_roll, list_at, list_of, added, digests}
 use Rattle.rules.specs.Derivation.{no_more, roll_of, roll_derived}
 use Rattle.rules.proofs.Somes.{each_same}
-use Rattle.bundle.proofs.Places.{new_some, new_before_lists}
 use Rattle.derivation.specs.Walk.{after, passed, met, derived_from}
 use Rattle.derivation.proofs.Walks.{all_passed, met_has, met_derives, passes_all}
 use Rattle.handover.specs.Asked.{roll_held, led, led_to, keeps}

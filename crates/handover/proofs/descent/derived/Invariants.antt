@@ -20,5 +20,5 @@ invariant-loop-i l = record {
   led : each (roll_derived (record { count = l.rows; rows = l.table }) l.s) l.i ≡ true;
   long : length l.kept ≡ most_rows;
   flagged : (r : ℕ) → r < l.rows → flag l.kept r ≡ kept_so_far (record { count = l.rows; rows = l.table }) l.s l.i r;
-  placed : l.at ≡ list_at l.s (l.rows * l.i)
+  placed : l.at ≡ list_at l.s (l.rows * l.i);
 }

@@ -1,10 +1,9 @@
 use mathlib.Core.Path.{◌≡◌, refl, sym, ap, ap₂, ◌∙◌}
-use mathlib.Core.Bool.{Bool, true, false, ◌&&◌, ◌||◌, true≢false}
+use mathlib.Core.Bool.{Bool, false, ◌&&◌, ◌||◌, true≢false}
 use mathlib.Core.List.{List}
 use Prim.Native.Nat.{ℕ, ◌≤◌, ◌<◌, ◌+◌, ◌*◌, ◌/◌}
 use native.Mathlib.Nat.{add-zero}
 use native.Mathlib.Omega.{arith}
-use borrow.Author.Tests.{eqb-true, eqb-false}
 use Rattle.std.specs.Bool.{then_some}
 use Rattle.std.specs.Option.{is_some}
 use lib.ListN.{length}
@@ -196,8 +195,8 @@ returns c =
     c.is_through.ensures ∙ ap₂ (λ (q : ℕ) (v : Roll). eqb q v.count) (l.invariant.met ∙ ap (passed old a.table.now) e) (rolled (goal.at.returns c).After-old_roll-roll) in
     let ends = ends_decide mine s a.i begin.requires.1 begin.requires.3 (rw e at l.invariant.led) in (
       c.then_some.ensures
-      ∙ ap₂ then_some through (l.invariant.placed ∙ ap (λ (k : ℕ). list_at s (list_of a.rows a.i k)) e)
-      ∙ sym (led_by mine s a.i _ (sym ends)),
+          ∙ ap₂ then_some through (l.invariant.placed ∙ ap (λ (k : ℕ). list_at s (list_of a.rows a.i k)) e)
+          ∙ sym (led_by mine s a.i _ (sym ends)),
       λ d r h.
           l.invariant.noted.noted r (omega arith)
           ∙ ap (λ (p : Bool). flag a.kept.now r || p) (walk_keeps mine s a.i begin.requires.1 begin.requires.3 d r h),

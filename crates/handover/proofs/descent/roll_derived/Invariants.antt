@@ -13,5 +13,5 @@ invariant-loop-r l = record {
   placed : l.place ≡ list_at l.s (list_of l.rows l.i l.r);
   met : l.q ≡ passed (roll_of l.s l.i) l.table l.r;
   led : each (walked (record { count = l.rows; rows = l.table }) (roll_of l.s l.i) l.s l.i) l.r ≡ true;
-  noted : NotedTo (keeps_next (record { count = l.rows; rows = l.table }) (roll_of l.s l.i) l.s l.i) l.initial.kept l.kept l.r
+  noted : NotedTo (keeps_next (record { count = l.rows; rows = l.table }) (roll_of l.s l.i) l.s l.i) l.initial.kept l.kept l.r;
 }
