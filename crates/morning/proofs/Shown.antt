@@ -1,5 +1,7 @@
 -- What is written is the report of what was read.
-use Rattle.std.proofs.Common.{◌≡◌, ℕ, List, arith, take, ap, subst, ◌∙◌, Option, Some, None, IfSome}
+use Rattle.std.specs.Result.{is_ok, OnOk}
+use Rattle.std.proofs.lemmas.Bool.{false≢true}
+use Rattle.std.proofs.Common.{true, sym, Result, Ok, Err, ◌≡◌, ℕ, List, arith, take, ap, subst, ◌∙◌, Option, Some, None, IfSome}
 use Rattle.std.specs.Io.KnownBytes.{Appends}
 use Rattle.octets.proofs.Puts.{take_put}
 use Rattle.night.specs.declared.Night.{Night}
@@ -19,3 +21,8 @@ pub told_printed : (file a b : Option (List ℕ)) (n : Night) → IfSome file (�
 unfolding report
 told_printed None a b n x y = tt
 told_printed (Some f) a b n x y = subst (Appends a b) (ap printed x ∙ report-told f) y
+
+-- what is said of a value, where there is one
+pub said : {E : Type 0} (P : Type 0) (w : Result Unit E) → true ≡ is_ok w → OnOk w P → P
+said P (Ok x) h p = p
+said P (Err x) h p = absurd (false≢true (sym h))

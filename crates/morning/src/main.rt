@@ -3,31 +3,28 @@
 // Without FILE it reads standard input.
 #![tactic(auto)]
 
-ghost use Rattle.std.specs.Prelude.{◌≡◌, ◌+◌, ◌*◌, ◌≤◌, ◌<◌, ◌^◌, length, take, true, ℕ, IfOk, OnOk};
+ghost use Rattle.std.specs.Prelude.{◌≡◌, ◌+◌, ◌*◌, ◌≤◌, ◌<◌, ◌^◌, length, take, true, IfSome, IfOk, OnOk};
 ghost use Rattle.std.specs.Io.KnownBytes.{Appends, Consumes, IsAtEnd};
-ghost use Rattle.night.specs.Pass as specs;
-ghost use Rattle.night.specs.Pass.{Kept};
+ghost use Rattle.night.specs.Pass.{Kept, blocks, passed};
 ghost use Rattle.report.specs.Printed.{printed};
 ghost use Rattle.morning.specs.Reading.{StandsAfter, GoesOn, Prints};
 
-use night::{Night, pass, start};
+use night::Night;
 use report::print;
 use std::fs::File;
 use std::io::{IsTerminal, Read, Write};
 use std::process::ExitCode;
 use std::{env, fmt, io};
 
-// How the reading stands: there may be more, all is read, or a read failed.
+// How the reading stands: there may be more, or all is read.
 #[derive(Clone, Copy)]
 enum Stands {
     More,
     All,
-    Failed(io::Error),
 }
 
-// What the program answers: the report is printed, the file could not be read, or the report could not be written.
-enum Answer {
-    Printed,
+// Why there is no report: the file could not be read, or the report could not be written.
+enum Failure {
     Unread(io::Error),
     Unwritten(io::Error),
 }
@@ -42,13 +39,6 @@ const TOLD_AFTER: u64 = 1024;
 
 // The exit status of what went wrong.
 const WRONG: u8 = 2;
-
-// A night as far as it is read.
-#[derive(Clone, Copy)]
-struct Told {
-    night: Night,
-    stands: Stands,
-}
 
 // Reads until the piece is full, the input ends or a read fails, and returns how many bytes it put at the start of the piece.
 fn read_full<R: Read>(input: &mut R, piece: &mut [u8]) -> usize
@@ -76,75 +66,71 @@ fn is_at_end<R: Read>(input: &mut R) -> io::Result<bool>
 }
 
 // How the reading stands after a piece of n bytes.
-fn stands_after<R: Read>(input: &mut R, n: usize) -> Stands
+fn stands_after<R: Read>(input: &mut R, n: usize) -> io::Result<Stands>
     ensures { StandsAfter n (R.remaining input.old) (R.remaining input.new) result }
 {
     if n == PIECE {
-        return Stands::More;
+        return Ok(Stands::More);
     }
-    match is_at_end(input) {
-        Ok(true) => Stands::All,
-        Ok(false) => Stands::Failed(io::Error::other("cannot be read")),
-        Err(e) => Stands::Failed(e),
+    if is_at_end(input)? {
+        return Ok(Stands::All);
     }
+    Err(io::Error::other("cannot be read"))
 }
 
-// Reads one piece, and counts its blocks.
-fn read_piece<R: Read>(night: Night, input: &mut R) -> Told
-    requires { Kept night × (night.totals.blocks + 128 < 2 ^ 64) }
-    ensures kept { Kept result.night × (result.night.totals.blocks ≤ night.totals.blocks + 128) }
-    ensures goes_on { GoesOn 1 (R.remaining input.old) (R.remaining input.new) night result.night result.stands }
+// Reads one piece, and counts its blocks, where no read fails.
+fn read_piece<R: Read>(night: &mut Night, input: &mut R) -> io::Result<Stands>
+    requires { Kept night.old × (night.old.totals.blocks + 128 < 2 ^ 64) }
+    ensures kept { Kept night.new × (night.new.totals.blocks ≤ night.old.totals.blocks + 128) }
+    ensures goes_on { GoesOn 1 (R.remaining input.old) (R.remaining input.new) night.old night.new result }
 {
     let mut piece = [0u8; PIECE];
     let n = read_full(input, &mut piece);
-    let stands = stands_after(input, n);
-    let after = pass(night, &piece[..n]);
-    Told {
-        night: after,
-        stands,
-    }
+    let stands = stands_after(input, n)?;
+    night.pass(&piece[..n]);
+    Ok(stands)
 }
 
 // On a terminal, says how many blocks are read.
 fn tell(rt: &HostRuntime, pieces: u64, blocks: u64) {
-    if pieces % TOLD_AFTER == 0 {
-        if rt.stderr().is_terminal() {
-            let _ = eprint!(rt; "\rreport: blocks read: {blocks}");
-        }
+    if pieces % TOLD_AFTER == 0 && rt.stderr().is_terminal() {
+        let _ = eprint!(rt; "\rreport: blocks read: {blocks}");
+    }
+}
+
+// Ends the line that tells of it.
+fn end_line(rt: &HostRuntime, pieces: u64) {
+    if TOLD_AFTER <= pieces && rt.stderr().is_terminal() {
+        let _ = eprint!(rt; "\n");
     }
 }
 
 // Reads all pieces. A file of more pieces than can be counted is one that cannot be read.
-fn read_all<R: Read>(rt: &HostRuntime, input: &mut R) -> Told
-    ensures kept { Kept result.night }
-    ensures all { (n : ℕ) × GoesOn n (R.remaining input.old) (R.remaining input.new) specs.start result.night result.stands }
+fn read_all<R: Read>(rt: &HostRuntime, input: &mut R, night: &mut Night) -> io::Result<()>
+    requires { Kept night.old × (night.old.totals.blocks ≡ 0) }
+    ensures kept { Kept night.new }
+    ensures all { OnOk result (IfSome (R.remaining input.old) (λ file. night.new ≡ passed night.old file (blocks file))) }
 {
-    let night = start();
-    let mut told = Told {
-        night,
-        stands: Stands::More,
-    };
-    let mut pieces: u64 = 0;
-    while pieces < MOST_PIECES && matches!(told.stands, Stands::More) {
-        let before = told.night;
-        let next = read_piece(before, input);
-        told = next;
-        pieces += 1;
-        let totals = before.totals;
-        tell(rt, pieces, totals.blocks);
+    for pieces in 0..MOST_PIECES {
+        let blocks = night.totals.blocks;
+        let stands = read_piece(night, input);
+        tell(rt, pieces + 1, blocks);
+        let ended = match stands {
+            Ok(Stands::More) => continue,
+            Ok(Stands::All) => Ok(()),
+            Err(e) => Err(e),
+        };
+        end_line(rt, pieces + 1);
+        return ended;
     }
-    if TOLD_AFTER <= pieces {
-        if rt.stderr().is_terminal() {
-            let _ = eprint!(rt; "\n");
-        }
-    }
-    told
+    end_line(rt, MOST_PIECES);
+    Err(io::Error::other("cannot be read"))
 }
 
 // Writes the report, or answers why not all of it was taken.
-fn write_out<W: Write>(out: &mut W, night: Night) -> io::Result<()>
-    requires { Kept night }
-    ensures { OnOk result (Appends (W.contents out.old) (W.contents out.new) (printed night)) }
+fn write_out<W: Write>(out: &mut W, night: &Night) -> io::Result<()>
+    requires { Kept night.now }
+    ensures { OnOk result (Appends (W.contents out.old) (W.contents out.new) (printed night.now)) }
 {
     let mut text = [0u8; PIECE];
     let n = print(night, &mut text);
@@ -152,18 +138,17 @@ fn write_out<W: Write>(out: &mut W, night: Night) -> io::Result<()>
 }
 
 // Prints the report of what can be read from an input, all at the end, and nothing where a read fails.
-fn mahqurith_report<R: Read, W: Write>(rt: &HostRuntime, input: &mut R, out: &mut W) -> Answer
+fn mahqurith_report<R: Read, W: Write>(
+    rt: &HostRuntime,
+    input: &mut R,
+    out: &mut W,
+) -> Result<(), Failure>
     ensures { Prints (R.remaining input.old) (W.contents out.old) (W.contents out.new) result }
 {
-    let told = read_all(rt, input);
-    match told.stands {
-        Stands::More => Answer::Unread(io::Error::other("cannot be read")),
-        Stands::Failed(e) => Answer::Unread(e),
-        Stands::All => match write_out(out, told.night) {
-            Ok(()) => Answer::Printed,
-            Err(e) => Answer::Unwritten(e),
-        },
-    }
+    let mut night = Night::start();
+    read_all(rt, input, &mut night).map_err(Failure::Unread)?;
+    write_out(out, &night).map_err(Failure::Unwritten)?;
+    Ok(())
 }
 
 fn fail<D: fmt::Display>(rt: &impl Eprint, what: &str, why: &D) -> ExitCode {
@@ -174,9 +159,9 @@ fn fail<D: fmt::Display>(rt: &impl Eprint, what: &str, why: &D) -> ExitCode {
 // The report of an input that is called NAME, and the exit status.
 fn run<R: Read>(rt: &HostRuntime, name: &str, input: &mut R) -> ExitCode {
     match mahqurith_report(rt, input, &mut rt.stdout()) {
-        Answer::Printed => ExitCode::SUCCESS,
-        Answer::Unread(e) => fail(rt, name, &e),
-        Answer::Unwritten(e) => fail(rt, "standard output", &e),
+        Ok(()) => ExitCode::SUCCESS,
+        Err(Failure::Unread(e)) => fail(rt, name, &e),
+        Err(Failure::Unwritten(e)) => fail(rt, "standard output", &e),
     }
 }
 
