@@ -1,19 +1,19 @@
 -- A made block: what stands in each of its parts, and that it is sound. Assumes nothing.
 use mathlib.Core.Path.{◌≡◌, refl, sym, ap, ap₂, ◌∙◌}
 use mathlib.Core.Bool.{true, false, not, ◌&&◌}
-use mathlib.Core.List.{List, [], ◌∷◌, ◌++◌, append_assoc}
-use Prim.Native.Nat.{ℕ, ◌+◌, ◌-◌, ◌*◌, ◌/◌, ◌%◌, ◌≤◌, ◌<◌}
+use mathlib.Core.List.{List, ◌++◌, append_assoc}
+use Prim.Native.Nat.{ℕ, ◌+◌, ◌-◌, ◌≤◌, ◌<◌}
 use native.Mathlib.Nat.{zero-add}
 use native.Mathlib.Omega.{arith}
 use borrow.Author.Tests.{le-leb, leb-true, not-true}
-use lib.ListN.{length, get_or, take, drop, replicate, length-append, length-replicate}
+use lib.ListN.{length, take, drop, replicate, length-append, length-replicate}
 use lib.Seq.{take_at, drop_at, drop-drop, take-append-add}
 use lib.Dec.{leb}
 use Rattle.octets.specs.Numbers.{number_of, bytes_of}
 use Rattle.octets.specs.Strings.{all_zero, same, put}
 use Rattle.octets.proofs.Exact.{number_bytes}
 use Rattle.octets.proofs.Numbers.{bytes_length}
-use Rattle.octets.proofs.Parts.{part_cons, take-replicate, drop-replicate}
+use Rattle.octets.proofs.Parts.{take-replicate, drop-replicate}
 use Rattle.octets.proofs.Puts.{put-put, put-length}
 use Rattle.octets.proofs.RoundTrips.{and_left, and_right, same_refl}
 use Rattle.octets.proofs.Zeros.{zeros_are}
@@ -140,11 +140,6 @@ module _ (label : List ℕ) (height : ℕ) (digest tail text : List ℕ) where
       unfolding sound digest_right
       sound_made z low high e = rw (layout_made z low high, check_made, text_made, digest_made, e) (same_refl (sha256 text))
 
--- the text length in a block
-pub length_read : (b : List ℕ) → length b ≡ block_bytes → get_or b 88 0 * 256 + get_or b 89 0 ≡ length_in b
-unfolding length_in number_of
-length_read b h = rw (part_cons b 88 1 (omega arith), part_cons b 89 0 (omega arith)) (omega arith)
-
 pub laid_length : (b : List ℕ) → layout_right b ≡ true → length_in b ≤ most_text
 unfolding layout_right
 laid_length b h =
@@ -201,20 +196,12 @@ front_zeros n m s h k =
     ∙ take-append-add s (replicate (n - length s) 0) (m - length s)
     ∙ ap (λ (r : List ℕ). s ++ r) (take-replicate (m - length s) (n - length s) 0 (omega arith))
 
--- the two bytes of a text's length
-size_bytes : (n : ℕ) → n ≤ most_text → n / 256 ∷ n % 256 ∷ [] ≡ bytes_of 2 n
-unfolding bytes_of
-size_bytes n h =
-    let a : n / 256 ≡ n / 256 % 256 = omega arith in
-    let b : n % 256 ≡ n / 1 % 256 = omega arith in
-    ap₂ (λ (x y : ℕ). x ∷ y ∷ []) a b
-
 -- the parts put into a buffer of zeros, and the check behind them
 pub block_built :
     (n : ℕ) (label : List ℕ) (height : ℕ) (digest tail text d : List ℕ) → n ≡ block_bytes → length label ≡ 16 → length digest ≡ 32 → length tail ≡ 32
     → length text ≤ most_text
     → d
-    ≡ put (put (put (put (put (put (replicate n 0) 0 label) 16 (bytes_of 8 height)) 24 digest) 56 tail) 88 (length text / 256 ∷ length text % 256 ∷ [])) 90 text
+    ≡ put (put (put (put (put (put (replicate n 0) 0 label) 16 (bytes_of 8 height)) 24 digest) 56 tail) 88 (bytes_of 2 (length text))) 90 text
     → put d checked_bytes (check (take checked_bytes d)) ≡ block_of label height digest tail text
 unfolding block_of
 block_built n label height digest tail text d w l g t m e =
@@ -225,8 +212,7 @@ block_built n label height digest tail text d w l g t m e =
     let long : length s ≡ 90 + length text = simp (length-append, bytes_length) (omega arith) in
     let room : length (replicate {A = ℕ} n 0) ≡ n = length-replicate n 0 in
     let whole : d ≡ put (replicate n 0) 0 s =
-    e ∙ ap (λ (x : List ℕ). put (put (put (put (put (put (replicate n 0) 0 label) 16 (bytes_of 8 height)) 24 digest) 56 tail) 88 x) 90 text) (size_bytes (length text) m)
-    ∙ parts_put (replicate n 0) label (bytes_of 8 height) digest tail size text l lb g t ls (omega arith) in
+    e ∙ parts_put (replicate n 0) label (bytes_of 8 height) digest tail size text l lb g t ls (omega arith) in
     let count : length d ≡ block_bytes = ap length whole ∙ put-length (replicate n 0) 0 s (omega arith) ∙ room ∙ w in
     let left : checked_bytes - length s ≡ most_text - length text = omega arith in
     check-put d count

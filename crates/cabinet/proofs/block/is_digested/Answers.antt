@@ -15,4 +15,4 @@ returns c =
     let n : c.text_length-end.result ≡ length_in b = c.text_length-end.ensures in
     let e : 90 + c.text_length-end.result - 90 ≡ length_in b = omega arith in
     c.is_same.ensures
-    ∙ ap (λ (x : List ℕ). same x (take 32 (drop 24 b))) (c.digest_of-digest.ensures ∙ ap (λ (k : ℕ). sha256 (take k (drop 90 b))) e)
+    ∙ ap (λ (x : List ℕ). same x (take 32 (drop 24 b))) (c.digest.ensures ∙ ap (λ (k : ℕ). sha256 (take k (drop 90 b))) e)

@@ -1,18 +1,15 @@
+use mathlib.Core.Path.{◌≡◌, ap, ◌∙◌}
 use native.Mathlib.Omega.{arith}
-use Rattle.cabinet.proofs.Blocks.{length_read}
+use lib.ListN.{length, take, drop, length-drop}
+use lib.Seq.{length-take-le}
+use Rattle.std.specs.Int.{w16, from_be_bytes}
+use Rattle.octets.proofs.Numbers.{number_sum}
+use Rattle.cabinet.specs.Block.{length_in}
 use Rattle.cabinet.proofs.block.text_length.Goals as goal
 
-pub overflow_cast-result : goal.overflow_cast-result
-overflow_cast-result c = omega (arith, c.shared_slice_known-1.given 88)
-
-pub overflow_mul-result : goal.overflow_mul-result
-overflow_mul-result c = omega (arith, c.shared_slice_known-1.given 88)
-
-pub overflow_cast-result-2 : goal.overflow_cast-result-2
-overflow_cast-result-2 c = omega (arith, c.shared_slice_known-2-1.given 89)
-
-pub overflow_add-result-2 : goal.overflow_add-result-2
-overflow_add-result-2 c = omega (arith, c.shared_slice_known-2-1.given 89, c.shared_slice_known-1.given 88)
-
 pub returns : goal.returns
-returns c = length_read c.args.b.now c.requires
+unfolding length_in
+returns c =
+    let s = drop 88 c.args.b.now in
+    let n : length (take 2 s) ≡ 2 = length-take-le 2 s (omega (arith, length-drop 88 c.args.b.now)) in
+    c.from.ensures ∙ c.from_be_bytes.ensures ∙ ap (from_be_bytes w16) c.array_at.ensures ∙ number_sum 1 (take 2 s) n
