@@ -10,12 +10,14 @@ mod word;
 mod words;
 
 ghost use Rattle.std.specs.Prelude.{◌≡◌, ◌≤◌, length};
+ghost use Rattle.refusals.specs.Refused.{answer_of};
 ghost use Rattle.hash.specs.Sha256.{sha256};
 ghost use Rattle.hash.specs.Promise.{longest, Outcome, hashing};
 
 use chunk::absorb;
 use constants::INITIAL;
 use ending::{ending, ending_chunks};
+use refusals::Refusal;
 use words::joined_words;
 
 // The bytes of the longest input.
@@ -35,12 +37,12 @@ pub fn digest(message: &[u8]) -> [u8; 32]
 }
 
 // SHA-256 of the message is stored in the digest area, or the message is too long and nothing changes.
-pub fn sha256(message: &[u8], area: &mut [u8; 32]) -> u32
-    ensures { record { answer = result; area = area.new } ≡ hashing message.now area.old }
+pub fn sha256(message: &[u8], area: &mut [u8; 32]) -> Result<(), Refusal>
+    ensures { record { answer = answer_of result; area = area.new } ≡ hashing message.now area.old }
 {
     if LONGEST < message.len() {
-        return refusals::INPUT_TOO_LONG;
+        return Err(Refusal::InputTooLong);
     }
     *area = digest(message);
-    refusals::ACCEPTED
+    Ok(())
 }

@@ -7,5 +7,8 @@ ghost use Rattle.hash.specs.Promise.{hashing};
 pub extern "C" fn mahqurith_sha256(message: &[u8], digest: &mut [u8; 32]) -> u32
     ensures { record { answer = result; area = digest.new } ≡ hashing message.now digest.old }
 {
-    hash::sha256(message, digest)
+    match hash::sha256(message, digest) {
+        Ok(()) => refusals::ACCEPTED,
+        Err(refusal) => refusal.number(),
+    }
 }

@@ -36,7 +36,8 @@ number_sum (suc k) [] e = absurd (omega arith)
 number_sum (suc k) (x ∷ s) e =
     let n : length s ≡ suc k = omega arith in
     sum_front (λ i. byte_worth (suc k - i) (get_or (x ∷ s) i 0)) k
-    ∙ ap₂ (λ (a b : ℕ). byte_worth a x + b) (sub-zero (suc k)) (ap (λ (f : ℕ → ℕ). sum_through f k) (λ j i. byte_worth (suc-sub-suc k i j) (get_or s i 0)) ∙ number_sum k s n)
+    ∙ ap₂ (λ (a b : ℕ). byte_worth a x + b) (sub-zero (suc k))
+    (ap (λ (f : ℕ → ℕ). sum_through f k) (λ j i. byte_worth (suc-sub-suc k i j) (get_or s i 0)) ∙ number_sum k s n)
     ∙ ap (λ (m : ℕ). x * 256 ^ m + number_of s) (sym n)
 
 -- a number's bytes, as the library says it

@@ -5,5 +5,5 @@ pub const SIZE: usize = 32;
 // The digest that the library makes of a message, if it makes one.
 pub fn of(message: &[u8]) -> Option<[u8; SIZE]> {
     let mut digest = [0u8; SIZE];
-    (hash::sha256(message, &mut digest) == refusals::ACCEPTED).then_some(digest)
+    hash::sha256(message, &mut digest).ok().map(|()| digest)
 }

@@ -10,12 +10,9 @@ use Rattle.checks.proofs.is_checked.Goals as goal
 pub slice_bounds-check_of-end : goal.slice_bounds-check_of-end
 slice_bounds-check_of-end c = simp length-take (omega arith)
 
-pub check_of-check-requires : goal.check_of-check-requires
-check_of-check-requires c = simp length-take (omega arith)
-
 pub returns : goal.returns
 unfolding check_right
 returns c =
     let b = c.args.b.now in
     c.is_same.ensures
-    ∙ ap₂ same c.check_of-check.ensures (take_all (length b - 508) (drop 508 b) (omega (arith, length-drop 508 b)))
+    ∙ ap₂ same c.check_of.ensures (take_all (length b - 508) (drop 508 b) (omega (arith, length-drop 508 b)))
