@@ -1,6 +1,6 @@
 -- The first place of which a test holds, and the label's newest block. Assumes nothing.
 use mathlib.Core.Path.{◌≡◌, refl, sym, ◌∙◌}
-use mathlib.Core.Bool.{Bool, true, false, cond, ◌&&◌}
+use mathlib.Core.Bool.{Bool, true, false, cond, ◌&&◌, ◌||◌}
 use mathlib.Core.List.{List}
 use Prim.Native.Nat.{ℕ, zero, suc, ◌+◌, ◌≤◌, ◌<◌}
 use native.Mathlib.Nat.{not-suc-le-zero}
@@ -9,10 +9,14 @@ use native.Mathlib.Numerals.{add-one}
 use native.Mathlib.Omega.{arith}
 use borrow.Author.Tests.{lt-ltb, le-ltb, ltb-true, ltb-false}
 use lib.Dec.{ltb}
+use Rattle.std.specs.Prelude.{Option, Some, None}
+use Rattle.std.specs.Option.{MatchOption}
+use Rattle.std.specs.Bool.{then_some}
+use Rattle.std.specs.List.{list_any, range_with_len}
 use Rattle.octets.specs.Strings.{same}
 use Rattle.octets.proofs.RoundTrips.{same_refl}
 use Rattle.cabinet.specs.Block.{label_in, height_in, tail_in}
-use Rattle.store.specs.Area.{block_at, first_place, newer, newest}
+use Rattle.store.specs.Area.{block_at, among, first_place, newer, newest}
 use Rattle.store.specs.declared.Newest.{Newest}
 
 module _ (test : ℕ → Bool) where
@@ -34,6 +38,38 @@ module _ (test : ℕ → Bool) where
           let at : first_place test n ≡ n = rw e at h in
           let holds : test n ≡ true = rw e at k in
           rw (at, le-ltb n n (omega arith), holds) (sym e)
+
+  -- a number of which it holds, and of none before it; or none among n
+  none_before : (n : ℕ) → ((i : ℕ) → i < n → test i ≡ false) → first_place test n ≡ n
+  unfolding first_place
+  none_before zero h = refl
+  none_before (suc n) h = rw (none_before n (λ i l. h i (omega arith)), le-ltb n n (omega arith), h n (omega arith))
+
+  pub found_among :
+      (n : ℕ) (r : Option ℕ)
+      → MatchOption r ((k : ℕ) → 0 ≤ k → k < n → test k ≡ false) (λ i. (0 ≤ i) × (i < n) × (test i ≡ true) × ((k : ℕ) → 0 ≤ k → k < i → test k ≡ false))
+      → r ≡ among n (first_place test n)
+  found_among n None h = rw (none_before n (λ i l. h i (omega arith) l), le-ltb n n (omega arith))
+  found_among n (Some i) h =
+      rw (first_found n i h.1 (none_before i (λ k l. h.3 k (omega arith) l)) h.2, lt-ltb i n h.1)
+
+  -- whether it holds of one of the numbers from a place on
+  any_from :
+      (n a : ℕ) → first_place test a ≡ a → list_any test (range_with_len a n) ≡ ltb (first_place test (a + n)) (a + n)
+  any_from zero a h = let e : a + 0 ≡ a = omega arith in rw (e, h, le-ltb a a (omega arith))
+  any_from (suc n) a h = go (λ k. any_from n (a + 1) k) (test a) refl
+    where
+      go :
+          (first_place test (a + 1) ≡ a + 1 → list_any test (range_with_len (a + 1) n) ≡ ltb (first_place test (a + 1 + n)) (a + 1 + n)) → (b : Bool)
+          → test a ≡ b → (test a || list_any test (range_with_len (a + 1) n)) ≡ ltb (first_place test (a + suc n)) (a + suc n)
+      go later true e = rw (e, first_found (a + suc n) a (omega arith) h e, lt-ltb a (a + suc n) (omega arith))
+      go later false e =
+          let k : a + suc n ≡ a + 1 + n = omega arith in
+          rw (e, k) (later (first_next a h e))
+
+  pub any_among : (n : ℕ) → list_any test (range_with_len 0 n) ≡ ltb (first_place test n) n
+  unfolding first_place
+  any_among n = let e : 0 + n ≡ n = omega arith in rw e at (any_from n 0 refl)
 
   pub first_within : (n : ℕ) → first_place test n ≤ n
   unfolding first_place
@@ -106,6 +142,21 @@ module _ (test : ℕ → Bool) where
           let none : test p ≡ false = first_none n p (omega (arith, first_within n)) l in
           let z : ◌≡◌ {A = Bool} true false = sym holds ∙ none in
           let w : ◌≡◌ {A = ℕ} 0 1 = cc in absurd (omega arith)
+
+-- what a place among n says
+pub among_some : (n i at : ℕ) → among n i ≡ Some at → (i ≡ at) × (i < n)
+among_some n i at e = go (ltb i n) refl e
+  where
+    go : (b : Bool) → ltb i n ≡ b → then_some b i ≡ Some at → (i ≡ at) × (i < n)
+    go true h k = (cc, ltb-true i n h)
+    go false h k = absurd (cc)
+
+pub among_none : (n i : ℕ) → among n i ≡ None → n ≤ i
+among_none n i e = go (ltb i n) refl e
+  where
+    go : (b : Bool) → ltb i n ≡ b → then_some b i ≡ None → n ≤ i
+    go true h k = absurd (cc)
+    go false h k = ltb-false i n h
 
 module _ (label : List ℕ) (found : Newest) (b : List ℕ) where
   pub newer_stays : height_in b ≤ found.height → newer label found b ≡ found

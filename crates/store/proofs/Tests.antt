@@ -8,13 +8,19 @@ use lib.ListN.{length}
 use native.Mathlib.Omega.{arith}
 use lib.Dec.{eqb, ltb}
 use Rattle.refusals.specs.{accepted, area_too_short, record_not_sound, no_such_ledger, out_of_order, store_full, block_damaged}
+use Rattle.std.specs.Prelude.{Result, Err}
+use Rattle.std.specs.Result.{IsErrAnd}
+use Rattle.std.proofs.lemmas.Result.{err_from_is_err_and}
+use Rattle.refusals.specs.declared.Refusal.{Refusal}
+use Rattle.refusals.specs.Refused.{refusal_number, refusal_height, answer_of}
 use Rattle.refusals.specs.Order.{Test, ◌⇒◌, first}
 use Rattle.refusals.proofs.Orders.{numbered, passes, stops, goes_on}
 use Rattle.octets.specs.Strings.{put}
 use Rattle.checks.specs.Check.{block_bytes}
 use Rattle.cabinet.specs.Block.{most_text}
 use Rattle.store.specs.Area.{blocks, area_right, block_at, first_unused, holds_damaged, newest}
-use Rattle.store.specs.Append.{ready_tests, order_tests, room_tests, append_tests, block_appended, shown, appending}
+use Rattle.store.specs.Answers.{height_of}
+use Rattle.store.specs.Append.{Appended, ready_tests, order_tests, room_tests, append_tests, block_appended, shown, appending}
 use Rattle.store.specs.Read.{first_answer, read_tests, reading}
 
 -- none of the first four tests answers with 11
@@ -55,7 +61,7 @@ module _ (area label : List ℕ) (expected : ℕ) (text : List ℕ) where
 
   pub append_unready :
       (k : ℕ) → k ≡ first (ready_tests area label text) → (k ≡ 0 → ⊥)
-      → record { number = k; written = 0; height = shown k 0; area = area } ≡ appending area label expected text
+      → record { number = k; written = 0; height = 0; area = area } ≡ appending area label expected text
   unfolding append_tests shown
   append_unready k e n =
       let no : eqb k out_of_order ≡ false = ap (λ (m : ℕ). eqb m out_of_order) e ∙ eleven in
@@ -79,7 +85,7 @@ module _ (area label : List ℕ) (expected : ℕ) (text : List ℕ) where
 
       pub append_full :
           first_unused area (blocks area) ≡ blocks area
-          → record { number = store_full; written = 0; height = shown store_full 0; area = area } ≡ appending area label expected text
+          → record { number = store_full; written = 0; height = 0; area = area } ≡ appending area label expected text
       unfolding shown room_tests first
       append_full g =
           sym (refused store_full (further ∙ rw (eq-eqb (first_unused area (blocks area)) (blocks area) g)) (λ e. omega arith))
@@ -89,12 +95,23 @@ module _ (area label : List ℕ) (expected : ℕ) (text : List ℕ) where
           → record {
             number = accepted;
             written = 0;
-            height = shown accepted 0;
+            height = 0;
             area = put area (block_bytes * first_unused area (blocks area)) (block_appended area label expected text);
           }
           ≡ appending area label expected text
       unfolding shown room_tests first appending
       append_done g = let e : first tests ≡ 0 = further ∙ rw (ne_eqb (first_unused area (blocks area)) (blocks area) g) in rw e
+
+-- what `?` hands on, as an answer
+pub handed :
+    {A : Type 0} (q : Result A Refusal) (r : Refusal) (area : List ℕ) → IsErrAnd q (λ y. y ≡ r)
+    → ◌≡◌ {A = Appended}
+    (record { number = answer_of q; written = 0; height = height_of q; area = area })
+    (record { number = refusal_number r; written = 0; height = refusal_height r; area = area })
+handed q r area h =
+    let p = err_from_is_err_and q h in
+    let e : q ≡ Err r = p.1 ∙ ap (λ (y : Refusal). Err y) p.2 in
+    rw e
 
 module _ (area label : List ℕ) (height : ℕ) (output : List ℕ) where
   pub read_short : length output < block_bytes → record { number = area_too_short; written = 0; height = 0; output = output } ≡ reading area label height output

@@ -1,6 +1,6 @@
 -- The append. 02, M-104: "It appends a text at an expected height, one above the label's first block of greatest height (height 1 for a label it hasn't got),
 -- into the first unused block."; "the tail follows 01".
-use Rattle.std.specs.Prelude.{Bool, not, cond, List, [], ◌∷◌, ◌++◌, ℕ, ◌+◌, ◌*◌, length, eqb, ltb}
+use Rattle.std.specs.Prelude.{not, cond, List, [], ◌∷◌, ◌++◌, ℕ, ◌+◌, ◌*◌, length, eqb, ltb}
 use Rattle.refusals.specs.{accepted, record_not_sound, out_of_order, height_at_top, label_zero, text_too_long, store_full}
 use Rattle.refusals.specs.Order.{Test, ◌⇒◌, first}
 use Rattle.octets.specs.Strings.{all_zero, put}

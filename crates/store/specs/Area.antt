@@ -1,5 +1,6 @@
 -- The area of the store. 02, M-104: "It lies in a lent area of up to 128 blocks of 512 bytes".
-use Rattle.std.specs.Prelude.{Bool, cond, ◌&&◌, List, ℕ, zero, suc, ◌/◌, ◌%◌, length, replicate, eqb, leb, ltb}
+use Rattle.std.specs.Bool.{then_some}
+use Rattle.std.specs.Prelude.{Bool, Option, cond, ◌&&◌, List, ℕ, zero, suc, ◌/◌, ◌%◌, length, replicate, eqb, leb, ltb}
 use Rattle.octets.specs.Strings.{same}
 use Rattle.rows.specs.Sizes.{tail_bytes}
 use Rattle.checks.specs.Check.{block_bytes}
@@ -22,6 +23,10 @@ area_right area = eqb (length area % block_bytes) 0 && leb (blocks area) most_bl
 unfoldable pub first_place : (ℕ → Bool) → ℕ → ℕ
 first_place test zero = 0
 first_place test (suc n) = cond (ltb (first_place test n) n) (first_place test n) (cond (test n) n (suc n))
+
+-- a place among n, where it is one
+abbrev pub among : ℕ → ℕ → Option ℕ
+among n i = then_some (ltb i n) i
 
 -- "the first unused block"
 unfoldable pub first_unused : List ℕ → ℕ → ℕ

@@ -1,72 +1,70 @@
 // The append.
-ghost use Rattle.std.specs.Prelude.{◌≡◌, ◌+◌, eqb};
+ghost use Rattle.std.specs.Prelude.{◌≡◌};
+ghost use Rattle.refusals.specs.Refused.{answer_of};
 ghost use Rattle.refusals.specs.Order.{first};
 ghost use Rattle.store.specs.Append.{ready_tests, order_tests, shown, appending};
+ghost use Rattle.store.specs.Answers.{height_of};
 
-use crate::scan::{first_damaged, first_unused, is_area, newest};
+use crate::scan::{first_unused, has_damaged, is_area, newest};
 use crate::{Answer, Place};
 use cabinet::{MOST_TEXT, made_block};
-use checks::{BLOCK, digest_of};
+use checks::BLOCK;
 use octets::{copy_at, is_zero};
-use rows::{TOP, appended};
+use refusals::Refusal;
+use rows::{TOP, appended, is_next};
 
-// The first refusal before the heights are looked at, or 0.
-fn unready(area: &[u8], label: &[u8], text: &[u8]) -> u32
-    ensures { result ≡ first (ready_tests area.now label.now text.now) }
+// What is refused before the heights are looked at.
+#[tactic(auto, unfolding(refusals::specs::Order::first, crate::specs::Append::ready_tests, crate::specs::Area::holds_damaged, crate::specs::Area::blocks))]
+fn check_ready(area: &[u8], label: &[u8], text: &[u8]) -> Result<(), Refusal>
+    ensures answer { answer_of result ≡ first (ready_tests area.now label.now text.now) }
+    ensures height { height_of result ≡ 0 }
 {
     if MOST_TEXT < text.len() {
-        return refusals::TEXT_TOO_LONG;
+        return Err(Refusal::TextTooLong);
     }
     if !is_area(area) {
-        return refusals::RECORD_NOT_SOUND;
+        return Err(Refusal::RecordNotSound);
     }
-    let n = area.len() / BLOCK;
-    if first_damaged(area, n) < n {
-        return refusals::RECORD_NOT_SOUND;
+    if has_damaged(area, area.len() / BLOCK) {
+        return Err(Refusal::RecordNotSound);
     }
     if is_zero(label) {
-        return refusals::LABEL_ZERO;
+        return Err(Refusal::LabelZero);
     }
-    refusals::ACCEPTED
+    Ok(())
 }
 
-// Whether a height is the next one.
-fn is_next(expected: u64, height: u64) -> bool
-    ensures { result ≡ eqb expected (height + 1) }
-{
-    if expected == 0 {
-        return false;
-    }
-    expected - 1 == height
-}
-
-// The first refusal of the heights, or 0.
-fn unordered(expected: u64, height: u64) -> u32
-    ensures { result ≡ first (order_tests expected height) }
+// What is refused of the heights.
+#[tactic(auto, unfolding(refusals::specs::Order::first, crate::specs::Append::order_tests, crate::specs::Append::shown))]
+fn check_order(expected: u64, height: u64) -> Result<(), Refusal>
+    ensures answer { answer_of result ≡ first (order_tests expected height) }
+    ensures height { height_of result ≡ shown (answer_of result) height }
 {
     if !is_next(expected, height) {
-        return refusals::OUT_OF_ORDER;
+        return Err(Refusal::OutOfOrder { height });
     }
     if height == TOP {
-        return refusals::HEIGHT_AT_TOP;
+        return Err(Refusal::HeightAtTop);
     }
-    refusals::ACCEPTED
+    Ok(())
 }
 
-// A refusal: its number, and the present height with 11.
-fn refusal(number: u32, height: u64) -> Answer
-    ensures { result ≡ record { number = number; written = 0; height = shown number height } }
+// Appends a text at the height that the label has next.
+fn append(area: &mut [u8], asked: Place, text: &[u8]) -> Result<(), Refusal>
+    ensures { record { number = answer_of result; written = 0; height = height_of result; area = area.new } ≡ appending area.old asked.label asked.height text.now }
 {
-    let shown = if number == refusals::OUT_OF_ORDER {
-        height
-    } else {
-        0
+    check_ready(area, &asked.label, text)?;
+    let n = area.len() / BLOCK;
+    let found = newest(area, &asked.label, n);
+    check_order(asked.height, found.height)?;
+    let Some(at) = first_unused(area, n) else {
+        return Err(Refusal::StoreFull);
     };
-    Answer {
-        number,
-        written: 0,
-        height: shown,
-    }
+    let digest = hash::digest(text);
+    let tail = appended(found.tail, digest);
+    let block = made_block(asked.label, asked.height, digest, tail, text);
+    copy_at(area, BLOCK * at, &block);
+    Ok(())
 }
 
 // Appends a text at the height that the label has next.
@@ -74,26 +72,8 @@ fn refusal(number: u32, height: u64) -> Answer
 pub extern "C" fn mahqurith_store_append(area: &mut [u8], asked: Place, text: &[u8]) -> Answer
     ensures { record { number = result.number; written = result.written; height = result.height; area = area.new } ≡ appending area.old asked.label asked.height text.now }
 {
-    let label = asked.label;
-    let before = unready(area, &label, text);
-    if before != refusals::ACCEPTED {
-        return refusal(before, 0);
+    match append(area, asked, text) {
+        Ok(()) => Answer::accepted(0),
+        Err(refusal) => Answer::from(refusal),
     }
-    let n = area.len() / BLOCK;
-    let found = newest(area, &label, n);
-    let height = found.height;
-    let order = unordered(asked.height, height);
-    if order != refusals::ACCEPTED {
-        return refusal(order, height);
-    }
-    let at = first_unused(area, n);
-    if at == n {
-        return refusal(refusals::STORE_FULL, 0);
-    }
-    let old = found.tail;
-    let digest = digest_of(text);
-    let tail = appended(old, digest);
-    let block = made_block(label, asked.height, digest, tail, text);
-    copy_at(area, BLOCK * at, &block);
-    refusal(refusals::ACCEPTED, 0)
 }

@@ -1,6 +1,7 @@
 // The cabinet store of document 02, M-104: texts in blocks of 512 bytes in a lent area, appended and read back.
 #![tactic(auto)]
 
+mod answers;
 mod appending;
 mod reading;
 mod scan;

@@ -1,20 +1,36 @@
 // The read.
 ghost use Rattle.std.specs.Prelude.{◌≡◌};
+ghost use Rattle.std.specs.Result.{result_unwrap_or};
+ghost use Rattle.refusals.specs.Refused.{answer_of};
+ghost use Rattle.store.specs.Answers.{height_of};
 ghost use Rattle.store.specs.Read.{reading};
 
-use crate::scan::{first_answer, first_damaged, is_area};
+use crate::scan::{first_answer, has_damaged, is_area};
+use crate::standing::block_at;
 use crate::{Answer, Place};
 use checks::BLOCK;
 use octets::copy_at;
+use refusals::Refusal;
 
-fn answer(number: u32, written: usize) -> Answer
-    ensures { result ≡ record { number = number; written = written; height = 0 } }
+// Copies out the block of a label and a height; gives how many bytes.
+fn read(area: &[u8], asked: Place, output: &mut [u8]) -> Result<usize, Refusal>
+    ensures { record { number = answer_of result; written = result_unwrap_or result 0; height = height_of result; output = output.new } ≡ reading area.now asked.label asked.height output.old }
 {
-    Answer {
-        number,
-        written,
-        height: 0,
+    if output.len() < BLOCK {
+        return Err(Refusal::AreaTooShort);
     }
+    if !is_area(area) {
+        return Err(Refusal::RecordNotSound);
+    }
+    let n = area.len() / BLOCK;
+    let Some(at) = first_answer(area, &asked.label, asked.height, n) else {
+        if has_damaged(area, n) {
+            return Err(Refusal::BlockDamaged);
+        }
+        return Err(Refusal::NoSuchLedger);
+    };
+    copy_at(output, 0, block_at(area, at));
+    Ok(BLOCK)
 }
 
 // Copies out the block of a label and a height.
@@ -22,22 +38,8 @@ fn answer(number: u32, written: usize) -> Answer
 pub extern "C" fn mahqurith_store_read(area: &[u8], asked: Place, output: &mut [u8]) -> Answer
     ensures { record { number = result.number; written = result.written; height = result.height; output = output.new } ≡ reading area.now asked.label asked.height output.old }
 {
-    if output.len() < BLOCK {
-        return answer(refusals::AREA_TOO_SHORT, 0);
+    match read(area, asked, output) {
+        Ok(written) => Answer::accepted(written),
+        Err(refusal) => Answer::from(refusal),
     }
-    if !is_area(area) {
-        return answer(refusals::RECORD_NOT_SOUND, 0);
-    }
-    let label = asked.label;
-    let n = area.len() / BLOCK;
-    let at = first_answer(area, &label, asked.height, n);
-    if at == n {
-        if first_damaged(area, n) < n {
-            return answer(refusals::BLOCK_DAMAGED, 0);
-        }
-        return answer(refusals::NO_SUCH_LEDGER, 0);
-    }
-    let from = BLOCK * at;
-    copy_at(output, 0, &area[from..from + BLOCK]);
-    answer(refusals::ACCEPTED, BLOCK)
 }

@@ -6,46 +6,49 @@ ghost use Rattle.store.specs.Area.{block_at, newer};
 ghost use Rattle.store.specs.Read.{answers};
 
 use crate::Newest;
-use cabinet::{HEIGHT_PLACE, LENGTH_PLACE, TAIL_PLACE, is_damaged, is_sound};
+use cabinet::{HEIGHT_PLACE, TAIL_PLACE, is_damaged, is_sound};
 use checks::BLOCK;
-use octets::{copy_at, is_same, is_zero, number_at};
-use rows::{LABEL, TAIL};
+use octets::{array_at, is_same, is_zero, number_at};
+use rows::LABEL;
 
+// Block i of an area.
+pub fn block_at(area: &[u8], i: usize) -> &[u8]
+    requires { block_bytes * i + block_bytes ≤ length area.now }
+    ensures block { result.now ≡ block_at area.now i }
+    ensures long { length result.now ≡ block_bytes }
+{
+    let from = BLOCK * i;
+    &area[from..from + BLOCK]
+}
+
+#[tactic(auto, unfolding(cabinet::specs::Block::unused))]
 pub fn unused_at(area: &[u8], i: usize) -> bool
     requires { block_bytes * i + block_bytes ≤ length area.now }
     ensures { result ≡ unused (block_at area.now i) }
 {
-    let from = BLOCK * i;
-    is_zero(&area[from..from + BLOCK])
+    is_zero(block_at(area, i))
 }
 
 pub fn damaged_at(area: &[u8], i: usize) -> bool
     requires { block_bytes * i + block_bytes ≤ length area.now }
     ensures { result ≡ damaged (block_at area.now i) }
 {
-    let from = BLOCK * i;
-    is_damaged(&area[from..from + BLOCK])
+    is_damaged(block_at(area, i))
 }
 
+#[tactic(auto, unfolding(crate::specs::Read::answers, cabinet::specs::Block::label_in, cabinet::specs::Block::height_in))]
 fn is_asked(b: &[u8], label: &[u8], height: u64) -> bool
     requires { length b.now ≡ block_bytes }
     ensures { result ≡ answers label.now height b.now }
 {
-    if number_at(b, HEIGHT_PLACE) != height {
-        return false;
-    }
-    if !is_same(&b[..LABEL], label) {
-        return false;
-    }
-    is_sound(b)
+    number_at(b, HEIGHT_PLACE) == height && is_same(&b[..LABEL], label) && is_sound(b)
 }
 
 pub fn answers_at(area: &[u8], i: usize, label: &[u8], height: u64) -> bool
     requires { block_bytes * i + block_bytes ≤ length area.now }
     ensures { result ≡ answers label.now height (block_at area.now i) }
 {
-    let from = BLOCK * i;
-    is_asked(&area[from..from + BLOCK], label, height)
+    is_asked(block_at(area, i), label, height)
 }
 
 fn newer(b: &[u8], label: &[u8], found: Newest) -> Newest
@@ -59,15 +62,15 @@ fn newer(b: &[u8], label: &[u8], found: Newest) -> Newest
     if !is_same(&b[..LABEL], label) {
         return found;
     }
-    let mut tail = [0u8; TAIL];
-    copy_at(&mut tail, 0, &b[TAIL_PLACE..LENGTH_PLACE]);
-    Newest { height, tail }
+    Newest {
+        height,
+        tail: array_at(b, TAIL_PLACE),
+    }
 }
 
 pub fn newer_at(area: &[u8], i: usize, label: &[u8], found: Newest) -> Newest
     requires { block_bytes * i + block_bytes ≤ length area.now }
     ensures { result ≡ newer label.now found (block_at area.now i) }
 {
-    let from = BLOCK * i;
-    newer(&area[from..from + BLOCK], label, found)
+    newer(block_at(area, i), label, found)
 }

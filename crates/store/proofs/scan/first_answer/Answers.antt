@@ -1,34 +1,18 @@
-use mathlib.Core.Path.{◌≡◌, refl, sym, ◌∙◌}
+use borrow.Author.Rules.{rules}
+use borrow.Author.Tests.{tests}
 use Prim.Native.Nat.{ℕ}
-use native.Mathlib.Omega.{arith}
-use Rattle.store.specs.Area.{block_at, first_place}
+use Rattle.std.proofs.lemmas.Iterator.{first_from_Range}
+use mathlib.Core.Path.{◌≡◌}
+use mathlib.Core.Bool.{true, false}
+use Rattle.store.specs.Area.{block_at}
 use Rattle.store.specs.Read.{answers, first_answer}
-use Rattle.store.proofs.Places.{first_next, first_found}
+use Rattle.store.proofs.Places.{found_among}
 use Rattle.store.proofs.scan.first_answer.Goals as goal
-
-pub loop-i-init : goal.loop-i-init
-unfolding first_place
-loop-i-init c = (omega arith, refl)
-
-pub returns-then-answers_at : goal.returns-then-answers_at
-unfolding first_answer
-returns-then-answers_at c =
-    let c5 = c in
-    let a = c5.args in
-    let l = c.loop-i in
-    sym (first_found (λ (i : ℕ). answers a.label.now a.height (block_at a.area.now i)) a.n l.i (omega arith) l.invariant.1 (sym c.answers_at.ensures ∙ c.if-answers_at.true))
-
-pub loop-i-preserved : goal.loop-i-preserved
-loop-i-preserved c =
-    let c5 = c in
-    let a = c5.args in
-    let l = c.loop-i in
-    (omega arith, first_next (λ (i : ℕ). answers a.label.now a.height (block_at a.area.now i)) l.i l.invariant.1 (sym c.answers_at.ensures ∙ c.if-answers_at.false))
 
 pub returns : goal.returns
 unfolding first_answer
 returns c =
     let a = c.args in
-    let l = c.loop-i in
-    let e : l.i ≡ a.n = omega arith in
-    sym (rw e at l.invariant.1)
+    found_among (λ (i : ℕ). answers a.label.now a.height (block_at a.area.now i)) a.n _
+    (first_from_Range _ _ _ _ (λ i. answers a.label.now a.height (block_at a.area.now i) ≡ true) (λ i. answers a.label.now a.height (block_at a.area.now i) ≡ false) c.find.ensures.ran
+    (λ x q k. search (rules, tests)) (λ x q k. search (rules, tests)))

@@ -7,20 +7,17 @@ use Rattle.store.proofs.scan.newest.Goals as goal
 
 pub loop-i-init : goal.loop-i-init
 unfolding newest
-loop-i-init c = (omega arith, refl)
+loop-i-init c = refl
 
 pub loop-i-preserved : goal.loop-i-preserved
 loop-i-preserved c =
     let a = c.args in
-    let l = c.loop-i in (
-      omega arith,
-      c.newer_at-next.ensures ∙ ap (λ (f : Newest). newer a.label.now f (block_at a.area.now l.i)) l.invariant.1
-          ∙ sym (newest_next a.area.now a.label.now l.i),
-    )
+    let l = c.loop-i in
+    c.newer_at-found.ensures ∙ ap (λ (f : Newest). newer a.label.now f (block_at a.area.now l.i)) l.invariant ∙ sym (newest_next a.area.now a.label.now l.i)
 
 pub returns : goal.returns
 returns c =
     let a = c.args in
     let l = c.loop-i in
     let e : l.i ≡ a.n = omega arith in
-    l.invariant.1 ∙ ap (newest a.area.now a.label.now) e
+    l.invariant ∙ ap (newest a.area.now a.label.now) e

@@ -1,10 +1,9 @@
-use mathlib.Core.Path.{◌≡◌, sym, ap₂, ◌∙◌}
+use mathlib.Core.Path.{sym, ap₂, ◌∙◌}
 use mathlib.Core.List.{List}
 use Prim.Native.Nat.{ℕ}
 use native.Mathlib.Omega.{arith}
-use lib.ListN.{length, take, drop, length-take, length-drop}
+use lib.ListN.{length-take}
 use Rattle.cabinet.specs.Block.{label_in, height_in, tail_in}
-use Rattle.octets.proofs.Puts.{put_all}
 use Rattle.store.proofs.Places.{newer_stays, newer_other, newer_moves}
 use Rattle.store.proofs.standing.newer.Goals as goal
 
@@ -26,12 +25,6 @@ returns-then-not-is_same c =
 pub returns : goal.returns
 unfolding height_in label_in tail_in
 returns c =
-    let c5 = c in
-    let c10 = c in
-    let a = c10.args in
-    let b = a.b.now in
-    let h : c5.number_at-height.result ≡ height_in b = c5.number_at-height.ensures in
-    let t : length (take 32 (drop 56 b)) ≡ 32 = simp (length-take, length-drop) (omega arith) in
-    ap₂ (λ (k : ℕ) (l : List ℕ). record { height = k; tail = l }) h (c.copy_at.ensures ∙ put_all _ (take 32 (drop 56 b)) t)
-    ∙ sym (newer_moves a.label.now a.found b (omega arith) (sym c5.is_same.ensures
-    ∙ c.if-not-is_same.false))
+    let a = c.args in
+    ap₂ (λ (k : ℕ) (l : List ℕ). record { height = k; tail = l }) c.number_at-height.ensures c.array_at.ensures
+    ∙ sym (newer_moves a.label.now a.found a.b.now (omega (arith, c.number_at-height.ensures, c.if-height-found.false)) (sym c.is_same.ensures ∙ c.if-not-is_same.false))
