@@ -33,7 +33,7 @@ pub fn digest_for(store: &[u8], label: [u8; LABEL], height: u64) -> [u8; DIGEST]
     if only < blocks {
         return digest_at(store, only);
     }
-    digest_at(store, first_answer(store, &label, height, blocks))
+    digest_at(store, first_answer(store, &label, height, blocks).unwrap())
 }
 
 // Whether the store answers each height above a row up to the highest, and its digests lead to the highest tail.
@@ -44,10 +44,9 @@ pub fn leads_on(store: &[u8], label: [u8; LABEL], row: Highest, top: Highest) ->
     let blocks = store.len() / BLOCK;
     let mut tail = row.tail;
     for d in 0..top.height - row.height {
-        let i = first_answer(store, &label, row.height + (d + 1), blocks);
-        if i == blocks {
+        let Some(i) = first_answer(store, &label, row.height + (d + 1), blocks) else {
             return false;
-        }
+        };
         tail = appended(tail, digest_at(store, i));
     }
     is_same(&tail, &top.tail)

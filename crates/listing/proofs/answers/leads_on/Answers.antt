@@ -10,9 +10,10 @@ use Rattle.rows.proofs.Tables.{each_next}
 use Rattle.cabinet.specs.Block.{digest_in}
 use Rattle.store.specs.Area.{blocks, block_at}
 use Rattle.store.specs.Read.{first_answer}
+use Rattle.store.proofs.Places.{among_some, among_none}
 use Rattle.rules.specs.Derivation.{grown}
 use Rattle.maker.specs.Lists.{answered, listed, entry_digest}
-use Rattle.listing.proofs.Answered.{unanswered, is_answered, place_lies, digest_there, grown-listed, leads_fails, leads_all}
+use Rattle.listing.proofs.Answered.{unanswered, is_answered, place_within, place_lies, digest_there, grown-listed, leads_fails, leads_all}
 use Rattle.listing.proofs.answers.leads_on.Goals as goal
 
 pub overflow_sub-d-end : goal.overflow_sub-d-end
@@ -28,26 +29,24 @@ overflow_add-d c = omega (arith, c.requires.1)
 pub overflow_add-row : goal.overflow_add-row
 overflow_add-row c = omega (arith, c.requires.1)
 
-pub returns-then-i-blocks : goal.returns-then-i-blocks
+pub returns-in_default : goal.returns-in_default
 unfolding blocks
-returns-then-i-blocks c =
+returns-in_default c =
     let a = c.args in
     let l = c.loop-d in
+    let none = among_none _ _ (sym c.first_answer.ensures ∙ c.in_default.is) in
+    let within = place_within a.store.now a.label (a.row.height + (l.d + 1)) c.requires.0 in
     sym (leads_fails a.store.now a.label a.row a.top l.d (omega arith)
     (unanswered a.store.now a.label (a.row.height + (l.d + 1)) c.requires.0
-    (sym c.first_answer-i.ensures ∙ c.if-i-blocks.true)))
+    (omega (arith, none, within))))
 
 pub digest_at-requires : goal.digest_at-requires
 unfolding blocks
 digest_at-requires c =
     let a = c.args in
     let l = c.loop-d in
-    omega (
-      arith,
-      c.first_answer-i.ensures,
-      place_lies a.store.now a.label (a.row.height + (l.d + 1)) c.requires.0
-          (λ f. c.if-i-blocks.false (c.first_answer-i.ensures ∙ f)),
-    )
+    let there = among_some _ _ _ (sym c.first_answer.ensures ∙ c.in-Some.is) in
+    omega (arith, there.0, place_lies a.store.now a.label (a.row.height + (l.d + 1)) c.requires.0 (λ f. omega (arith, there.1, f)))
 
 pub loop-d-preserved : goal.loop-d-preserved
 unfolding blocks
@@ -56,10 +55,10 @@ loop-d-preserved c =
     let l = c.loop-d in
     let s = a.store.now in
     let h : ℕ = a.row.height in
-    let there : first_answer s a.label (h + (l.d + 1)) (blocks s) ≡ blocks s
-    → ⊥ = λ f. c.if-i-blocks.false (c.first_answer-i.ensures ∙ f) in
+    let some = among_some _ _ _ (sym c.first_answer.ensures ∙ c.in-Some.is) in
+    let there : (first_answer s a.label (h + (l.d + 1)) (blocks s) ≡ blocks s → ⊥) = λ f. omega (arith, some.1, f) in
     let digest : c.digest_at.result ≡ entry_digest s a.label (h + (l.d + 1)) =
-    c.digest_at.ensures ∙ ap (λ (i : ℕ). digest_in (block_at s i)) c.first_answer-i.ensures
+    c.digest_at.ensures ∙ ap (λ (i : ℕ). digest_in (block_at s i)) (sym some.0)
     ∙ sym (digest_there s a.label (h + (l.d + 1)) c.requires.0 there) in (
       each_next (λ (k : ℕ). answered s a.label (h + suc k)) l.d l.invariant.0
           (ap (λ (k : ℕ). answered s a.label (h + k)) (sym (add-one l.d))
