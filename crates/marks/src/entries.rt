@@ -1,5 +1,5 @@
 // Entries of a position in a rack and marks: whether a list of them keeps the rules, and the refusal of their marks.
-ghost use Rattle.std.specs.Prelude.{◌≡◌, ◌&&◌, ◌/◌, ◌<◌, length, ltb, leb};
+ghost use Rattle.std.specs.Prelude.{◌≡◌, ◌&&◌, ◌/◌, length, ltb, leb};
 ghost use Rattle.refusals.specs.Order.{first};
 ghost use Rattle.refusals.specs.Refused.{answer_of, refusal_number};
 ghost use Rattle.marks.specs.{marks_fit};
@@ -51,35 +51,4 @@ pub fn check_all(s: &[u8], invalid: Refusal) -> Result<(), Refusal>
         check_marks(pair[1], invalid)?;
     }
     Ok(())
-}
-
-// The refusal of one entry's marks: the key is not attested, or its signature is not valid, which has the number given.
-// TRANSITION: goes when bundle has left it
-pub fn mark_refusal(marks: u8, number: u32) -> u32
-    ensures { result ≡ first (mark_tests number marks) }
-{
-    if !is_attested(marks) {
-        return refusals::NOT_ATTESTED;
-    }
-    if !is_valid(marks) {
-        return number;
-    }
-    refusals::ACCEPTED
-}
-
-// The first refusal of the marks of pairs of position and marks.
-// TRANSITION: goes when bundle and desk have left it
-pub fn unmarked(s: &[u8], number: u32) -> u32
-    requires { 0 < number }
-    ensures { result ≡ first (marks_tests number (pair_marks s.now) (length s.now / 2)) }
-{
-    let mut i = 0;
-    while i < s.len() / 2 {
-        let refused = mark_refusal(s[2 * i + 1], number);
-        if refused != refusals::ACCEPTED {
-            return refused;
-        }
-        i += 1;
-    }
-    refusals::ACCEPTED
 }

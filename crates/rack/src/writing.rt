@@ -22,7 +22,8 @@ fn is_fitting(keys: Keys, count: usize) -> bool
 
 // Writes a rack into the first bytes of an area, or nothing changes: the contents are none that reading gives, or the area is too short for them.
 pub fn write_rack(count: u8, keys: Keys, area: &mut [u8]) -> Result<usize, Refusal>
-    ensures { record { answer = answer_of result; count = result_unwrap_or result 0; area = area.new } ≡ writing rack_layout rack_broken (record { count = count; keys = keys }) area.old }
+    ensures { record { answer = answer_of result; count = result_unwrap_or result 0; area = area.new }
+        ≡ writing rack_layout rack_broken (record { count = count; keys = keys }) area.old }
 {
     let n = usize::from(count);
     if !is_fitting(keys, n) {

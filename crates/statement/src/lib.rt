@@ -23,8 +23,8 @@ pub use kinds::{
 };
 use refusals::Refusal;
 
-// The last part of a statement, which depends on its kind. Blank is no statement; it stays, since `blank_statement` and the contract of `mahqurith_read_statement`
-// speak of it.
+// The last part of a statement, which depends on its kind. Blank is no statement.
+// Blank stays: the contracts of `read_statement` and `mahqurith_read_statement` speak of it, by `blank_statement`.
 #[derive(Clone, Copy)]
 pub enum Kind {
     Blank,
@@ -68,7 +68,8 @@ pub fn read_statement(s: &[u8]) -> Result<Statement, Refusal>
 
 // Writes a statement as the first bytes of an area.
 pub fn write_statement(v: Statement, area: &mut [u8]) -> Result<usize, Refusal>
-    ensures { record { answer = answer_of result; count = result_unwrap_or result 0; area = area.new } ≡ writing statement_layout statement_not_asked v area.old }
+    ensures { record { answer = answer_of result; count = result_unwrap_or result 0; area = area.new }
+        ≡ writing statement_layout statement_not_asked v area.old }
 {
     if !v.fits() {
         return Err(Refusal::StatementNotAsked);
