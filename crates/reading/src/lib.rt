@@ -3,4 +3,4 @@
 
 mod reading;
 
-pub use reading::{append_and_read, read};
+pub use reading::{BOTH, append_and_read, read};
