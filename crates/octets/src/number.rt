@@ -1,4 +1,5 @@
-// Big-endian numbers in strings of bytes.
+// Big-endian numbers in strings of bytes. Words and numbers stay two pairs: each type has a `from_be_bytes` of its own, and a trait over them is longer than
+// these four bodies.
 ghost use Rattle.std.specs.Prelude.{◌≡◌, ◌+◌, ◌≤◌, length, take, drop};
 ghost use Rattle.octets.specs.Numbers.{number_of, bytes_of};
 ghost use Rattle.octets.specs.Strings.{put};
