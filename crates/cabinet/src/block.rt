@@ -5,7 +5,7 @@ ghost use Rattle.cabinet.specs.Block.{most_text, length_in, layout_right, digest
 
 use crate::{DIGEST_PLACE, HEIGHT_PLACE, LENGTH_PLACE, MOST_TEXT, TAIL_PLACE, TEXT_PLACE};
 use checks::{BLOCK, CHECKED, DIGEST, check_of, is_checked};
-use octets::{array_at, copy_at, is_same, is_zero, number_at, put_number};
+use octets::{array_at, copy_at, is_zero, number_at, put_number};
 use rows::{LABEL, TAIL, TOP};
 
 // The text length that a block says.
@@ -37,10 +37,7 @@ fn is_digested(b: &[u8]) -> bool
     ensures { result ≡ digest_right b.now }
 {
     let end = TEXT_PLACE + text_length(b);
-    is_same(
-        &hash::digest(&b[TEXT_PLACE..end]),
-        &b[DIGEST_PLACE..TAIL_PLACE],
-    )
+    hash::digest(&b[TEXT_PLACE..end]) == array_at::<DIGEST>(b, DIGEST_PLACE)
 }
 
 // Whether a block is used and not damaged.

@@ -4,7 +4,7 @@ ghost use Rattle.statement.specs.Kinds.{kind_number, size};
 
 use crate::Kind;
 
-// The kinds.
+// The kinds' numbers. They stay: a statement's first byte is one, and so is the kind that C hands over.
 pub const NEW: u8 = 1;
 
 pub const APPEND: u8 = 2;
