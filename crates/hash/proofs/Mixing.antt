@@ -1,8 +1,7 @@
 -- The six functions of the standard in fewer operations, on words of w bits: each equation is the one by which the code computes. Assumes nothing.
-use Rattle.std.proofs.Common.{◌≡◌, ℕ, ◌+◌, ◌-◌, ◌%◌, ◌^◌, ◌<◌, ◌≤◌, sym, ap, ◌∙◌, ap₂, mod-eq_of_lt, arith}
+use Rattle.std.proofs.Common.{◌≡◌, ℕ, ◌+◌, ◌-◌, ◌^◌, ◌<◌, ◌≤◌, sym, ap, ◌∙◌, ap₂, mod-eq_of_lt, arith}
 use lib.Bits.{bit_and, bit_xor, and_self, and_comm, and_mask, xor_comm, xor_lt}
-use Rattle.std.specs.Int.{w32, rotate_right}
-use Rattle.hash.specs.Words.{complement, shl, shr, rotr}
+use Rattle.hash.specs.Words.{complement, shr, rotr}
 use Rattle.hash.specs.Functions.{Ch, Maj, upper_sigma, lower_sigma}
 use Rattle.hash.proofs.Bitwise.{xor_assoc, and_xor, xor_and, xor_twice, xor_left, xor_ones}
 use Rattle.hash.proofs.Rotations.{rotr_lt, rotr_xor, rotr-rotr}
@@ -60,34 +59,14 @@ lower_by w i j k x h hx =
     (rotr_xor w i (rotr w j x) x (omega arith) (rotr_lt w j x hx) hx
     ∙ ap (λ (n : ℕ). bit_xor n (rotr w i x)) (rotr-rotr w i j x h hx) ∙ xor_comm (rotr w (i + j) x) (rotr w i x))
 
--- the library's rotation of a word is the standard's
-rotated : (n x : ℕ) → 0 < n → n < 32 → rotate_right w32 x n ≡ rotr 32 n x
-unfolding shl shr rotr
-rotated n x h k =
-    let a : n % 32 ≡ n = omega arith in
-    let b : (32 - n) % 32 ≡ 32 - n = omega arith in
-    rw (a, b)
+-- the same for amounts in rising order, each rotation on from the one before by what they differ in
+pub upper_from :
+    (w i j k x : ℕ) → i < j → j < k → k < w → x < 2 ^ w
+    → rotr w i (bit_xor (rotr w (j - i) (bit_xor (rotr w (k - j) x) x)) x) ≡ upper_sigma w i j k x
+upper_from w i j k x p q r hx =
+    upper_by w i (j - i) (k - j) x (omega arith) hx ∙ ap₂ (λ (m n : ℕ). upper_sigma w i m n x) (omega arith) (omega arith)
 
--- the same for amounts in rising order, each from the one before
-pub upper_rotated :
-    (i j k x a b c : ℕ) → 0 < i → i < j → j < k → k < 32 → x < 2 ^ 32
-    → a ≡ rotate_right w32 x (k - j) → b ≡ rotate_right w32 (bit_xor a x) (j - i) → c ≡ rotate_right w32 (bit_xor b x) i
-    → c ≡ upper_sigma 32 i j k x
-upper_rotated i j k x a b c p q r s hx ea eb ec =
-    let third : a ≡ rotr 32 (k - j) x = ea ∙ rotated (k - j) x (omega arith) (omega arith) in
-    let second : b ≡ rotr 32 (j - i) (bit_xor (rotr 32 (k - j) x) x) =
-    eb ∙ rotated (j - i) (bit_xor a x) (omega arith) (omega arith) ∙ ap (λ (n : ℕ). rotr 32 (j - i) (bit_xor n x)) third in
-    ec ∙ rotated i (bit_xor b x) p (omega arith) ∙ ap (λ (n : ℕ). rotr 32 i (bit_xor n x)) second
-    ∙ upper_by 32 i (j - i) (k - j) x (omega arith) hx
-    ∙ ap₂ (λ (m n : ℕ). upper_sigma 32 i m n x) (omega arith) (omega arith)
-
-pub lower_rotated :
-    (i j k x a b : ℕ) → 0 < i → i < j → j < 32 → x < 2 ^ 32
-    → a ≡ rotate_right w32 x (j - i) → b ≡ rotate_right w32 (bit_xor a x) i
-    → bit_xor b (shr k x) ≡ lower_sigma 32 i j k x
-lower_rotated i j k x a b p q r hx ea eb =
-    let second : a ≡ rotr 32 (j - i) x = ea ∙ rotated (j - i) x (omega arith) (omega arith) in
-    let first : b ≡ rotr 32 i (bit_xor (rotr 32 (j - i) x) x) =
-    eb ∙ rotated i (bit_xor a x) p (omega arith) ∙ ap (λ (n : ℕ). rotr 32 i (bit_xor n x)) second in
-    ap (λ (n : ℕ). bit_xor n (shr k x)) first ∙ lower_by 32 i (j - i) k x (omega arith) hx
-    ∙ ap (λ (n : ℕ). lower_sigma 32 i n k x) (omega arith)
+pub lower_from :
+    (w i j k x : ℕ) → i < j → j < w → x < 2 ^ w
+    → bit_xor (rotr w i (bit_xor (rotr w (j - i) x) x)) (shr k x) ≡ lower_sigma w i j k x
+lower_from w i j k x p q hx = lower_by w i (j - i) k x (omega arith) hx ∙ ap (λ (m : ℕ). lower_sigma w i m k x) (omega arith)
