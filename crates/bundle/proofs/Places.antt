@@ -1,13 +1,13 @@
 -- Laws of the places in a bundle: they only grow, so that a string that ends where its last list does has every part within; and what a bundle has. Assumes nothing.
 use mathlib.Core.Path.{◌≡◌, refl, sym, ap, ◌∙◌}
-use mathlib.Core.Bool.{Bool, true, ◌&&◌}
+use mathlib.Core.Bool.{Bool, true, false, ◌&&◌}
 use mathlib.Core.List.{List}
 use Prim.Native.Nat.{ℕ, zero, suc, ◌+◌, ◌-◌, ◌*◌, ◌/◌, ◌<◌, ◌≤◌}
 use native.Mathlib.Decide.{dec_lt}
 use native.Mathlib.Nat.{add-zero, mul-suc, mul-le-mul_left}
 use native.Mathlib.Numerals.{add-one}
 use native.Mathlib.Omega.{arith}
-use borrow.Author.Tests.{leb-true, eqb-true}
+use borrow.Author.Tests.{lt-leb, leb-true, eqb-true}
 use lib.ListN.{length, take, drop, length-drop}
 use lib.Seq.{length-take-le, get_or-take, get_or-drop}
 use lib.Dec.{eqb, leb}
@@ -90,6 +90,10 @@ module _ (s : List ℕ) where
   -- an old entry has its head and blocks before the next place
   pub old_ends : (i j : ℕ) → i < j → old_at s i + (3 + block_bytes * old_blocks s i) ≤ old_at s j
   old_ends i j h = omega (arith, old_next i, old_later (i + 1) j (omega arith))
+
+  -- where the head of an old entry does not fit, no later one ends within
+  pub old_past : (i j : ℕ) → i < j → length s < old_at s i + 3 → leb (old_at s j) (length s) ≡ false
+  old_past i j h past = lt-leb (old_at s j) (length s) (omega (arith, old_ends i j h))
 
   pub list_ends : (i j : ℕ) → i < j → list_at s i + (2 + digest_bytes * added s i) ≤ list_at s j
   list_ends i j h = omega (arith, list_next i, list_later (i + 1) j (omega arith))

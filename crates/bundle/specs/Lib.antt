@@ -1,2 +1,3 @@
--- What the walks over a bundle ask.
+-- What the walks over a bundle ask, and its two lists by their numbers.
 pub mod Walked
+pub mod Lists

@@ -2,15 +2,18 @@
 #![tactic(auto)]
 
 mod fitting;
+mod lists;
 mod marked;
 mod parts;
 mod walks;
 
 pub use fitting::is_bundle;
+pub use lists::EntryList;
 pub use marked::{check_new_marks, check_old_marks};
 pub use parts::{digests, new_entries, old_roll};
 pub use walks::{
     added_at, first_list, list_at, new_at, new_count, next_list, next_old, old_at, old_count,
+    old_end,
 };
 
 // The bytes of the longest bundle, and of a block of a roll.

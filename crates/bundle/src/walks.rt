@@ -1,5 +1,6 @@
 // Where the parts of a bundle stand: each place is found from the one before it.
-ghost use Rattle.std.specs.Prelude.{◌≡◌, ◌+◌, ◌*◌, ◌≤◌, ◌<◌, length};
+ghost use Rattle.std.specs.Prelude.{◌≡◌, ◌+◌, ◌*◌, ◌≤◌, ◌<◌, leb, length};
+ghost use Rattle.std.specs.Bool.{then_some};
 ghost use Rattle.roll.specs.Blocks.{block_bytes};
 ghost use Rattle.statement.specs.Kinds.{digest_bytes};
 ghost use Rattle.rules.specs.Bundle.{longest_bundle, byte, old_count, old_at, new_at, new_count, two_byte, list_at};
@@ -25,16 +26,27 @@ pub fn next_old(s: &[u8], at: usize) -> usize
     at + (OLD_HEAD + BLOCK * blocks)
 }
 
+// Where so many old entries end, if they end within the string.
+pub fn old_end(s: &[u8], count: usize) -> Option<usize>
+    requires { length s.now ≤ longest_bundle }
+    ensures { result ≡ then_some (leb (old_at s.now count) (length s.now)) (old_at s.now count) }
+{
+    let mut at = 1;
+    for _ in 0..count {
+        if s.len() < at + OLD_HEAD {
+            return None;
+        }
+        at = next_old(s, at);
+    }
+    (at <= s.len()).then_some(at)
+}
+
 // Where old entry i begins, or the old entries end.
 pub fn old_at(s: &[u8], i: usize) -> usize
     requires { (old_at s.now i ≤ length s.now) × (length s.now ≤ longest_bundle) }
     ensures { result ≡ old_at s.now i }
 {
-    let mut at = 1;
-    for _ in 0..i {
-        at = next_old(s, at);
-    }
-    at
+    old_end(s, i).unwrap()
 }
 
 // Where the new entries begin, with their count.

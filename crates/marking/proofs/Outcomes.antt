@@ -1,6 +1,6 @@
 -- Each call's contract allows one outcome: two that it allows for the same arguments have the same result, and leave the same bundle; and an answer other than 0
 -- leaves the bundle as it was lent. Assumes nothing.
-use mathlib.Core.Path.{◌≡◌, refl, sym, ap, ◌∙◌}
+use mathlib.Core.Path.{◌≡◌, refl, sym, ◌∙◌}
 use mathlib.Core.Bool.{Bool, true, false, cond, ◌&&◌}
 use mathlib.Core.List.{List}
 use Prim.Native.Nat.{ℕ}

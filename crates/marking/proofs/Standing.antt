@@ -1,5 +1,5 @@
 -- Whether a list has an entry, test by test, and where the entry lies then. Assumes nothing.
-use mathlib.Core.Path.{◌≡◌, sym, ap, ◌∙◌}
+use mathlib.Core.Path.{◌≡◌, ap}
 use mathlib.Core.Bool.{Bool, true, false, cond, ◌&&◌}
 use mathlib.Core.List.{List}
 use Prim.Native.Nat.{ℕ, ◌+◌, ◌*◌, ◌≤◌, ◌<◌}
@@ -7,26 +7,21 @@ use native.Mathlib.Omega.{arith}
 use borrow.Author.Tests.{eq-eqb, ne_eqb, le-ltb, le-leb, lt-leb, leb-true, ltb-true}
 use lib.ListN.{length, get_or-eq_default}
 use lib.Dec.{eqb, leb, ltb}
+use Rattle.std.specs.Bool.{then_some}
 use Rattle.octets.proofs.RoundTrips.{and_left, and_right}
-use Rattle.rules.specs.Bundle.{longest_bundle, byte, old_count, old_at, new_at, new_count}
+use Rattle.rules.specs.Bundle.{longest_bundle, old_count, old_at, new_at, new_count}
 use Rattle.rules.specs.Check.{old_list, new_list, entries_of}
-use Rattle.bundle.proofs.Places.{old_next, old_ends}
+use Rattle.bundle.proofs.Places.{old_next}
 use Rattle.marking.specs.Entry.{entry_at, has_entry}
 
 module _ (s : List ℕ) where
-  -- where the head of an old entry does not fit, no later one ends within
-  pub olds_past : (k count : ℕ) → k < count → length s < old_at s k + 3 → leb (old_at s count) (length s) ≡ false
-  olds_past k count h past = lt-leb (old_at s count) (length s) (omega (arith, old_ends s k count h))
-
   -- all old entries end where the new ones begin
-  pub olds_reach : (k : ℕ) (b : Bool) → k ≡ old_count s → b ≡ leb (old_at s k) (length s) → b ≡ leb (new_at s) (length s)
+  pub reached :
+      (k : ℕ) → k ≡ old_count s → then_some (leb (old_at s k) (length s)) (old_at s k) ≡ then_some (leb (new_at s) (length s)) (new_at s)
   unfolding new_at
-  olds_reach k b e p = p ∙ ap (λ (x : ℕ). leb (old_at s x) (length s)) e
+  reached k e = ap (λ (x : ℕ). then_some (leb (old_at s x) (length s)) (old_at s x)) e
 
   module _ (i : ℕ) where
-    pub no_old : length s ≡ 0 → ltb i (old_count s) ≡ false
-    no_old e = le-ltb i (old_count s) (omega (arith, get_or-eq_default s 0 {n = 0} (omega arith)))
-
     pub no_new : length s ≤ new_at s → ltb i (new_count s) ≡ false
     no_new past = le-ltb i (new_count s) (omega (arith, get_or-eq_default s 0 {n = new_at s} past))
 
@@ -52,6 +47,10 @@ module _ (s : List ℕ) (list i : ℕ) where
   pub too_long : longest_bundle < length s → has_entry s list i ≡ false
   unfolding has_entry
   too_long h = rw (lt-leb (length s) longest_bundle h)
+
+  pub long_none : longest_bundle < length s → has_entry s list i ≡ false
+  unfolding has_entry
+  long_none h = rw (lt-leb (length s) longest_bundle h)
 
   module _ (short : length s ≤ longest_bundle) where
     pub old_has : list ≡ 0 → (ltb i (old_count s) && leb (old_at s (i + 1)) (length s)) ≡ has_entry s list i

@@ -1,88 +1,47 @@
-// Whether a list of a bundle has an entry, and where it stands.
-ghost use Rattle.std.specs.Prelude.{◌≡◌, true, ◌&&◌, ◌+◌, ◌*◌, ◌≤◌, leb, ltb, length};
+// Where the entry of a list begins that a chip is asked about, if the list has it.
+ghost use Rattle.std.specs.Prelude.{◌≡◌, ◌&&◌, ◌+◌, ◌*◌, ◌≤◌, leb, ltb, length};
+ghost use Rattle.std.specs.Bool.{then_some};
 ghost use Rattle.rules.specs.Bundle.{longest_bundle, old_count, old_at, new_at, new_count};
 ghost use Rattle.marking.specs.Entry.{entry_at, has_entry};
 
-use crate::{NEW, OLD};
-use bundle::{LONGEST, OLD_HEAD, PAIR, new_at, next_old, old_at, old_count};
+use bundle::{EntryList, LONGEST, PAIR, old_at, old_end};
 
-// Whether so many old entries end within a string.
-fn olds_end(s: &[u8], count: usize) -> bool
+// The old entry of this number.
+fn old_entry(s: &[u8], number: u64) -> Option<usize>
     requires { length s.now ≤ longest_bundle }
-    ensures { result ≡ leb (old_at s.now count) (length s.now) }
+    ensures { result ≡ then_some (ltb number (old_count s.now) && leb (old_at s.now (number + 1)) (length s.now)) (old_at s.now number) }
 {
-    let mut at: usize = 1;
-    let mut k = 0;
-    while k < count {
-        if s.len() < at + OLD_HEAD {
-            return false;
-        }
-        at = next_old(s, at);
-        k += 1;
+    if u64::from(*s.first()?) <= number {
+        return None;
     }
-    at <= s.len()
+    let i = number as usize;
+    old_end(s, i + 1)?;
+    Some(old_at(s, i))
 }
 
-// Whether there is an old entry of this number.
-fn has_old(s: &[u8], number: u64) -> bool
+// The new entry of this number.
+fn new_entry(s: &[u8], number: u64) -> Option<usize>
     requires { length s.now ≤ longest_bundle }
-    ensures { result ≡ (ltb number (old_count s.now) && leb (old_at s.now (number + 1)) (length s.now)) }
+    ensures { result ≡ then_some (ltb number (new_count s.now) && leb (new_at s.now + (1 + 2 * (number + 1))) (length s.now)) (new_at s.now + (1 + 2 * number)) }
 {
-    if s.len() == 0 {
-        return false;
+    let at = old_end(s, usize::from(*s.first()?))?;
+    if u64::from(*s.get(at)?) <= number {
+        return None;
     }
-    let count = s[0] as u64;
-    if count <= number {
-        return false;
-    }
-    olds_end(s, number as usize + 1)
+    let begin = at + (1 + PAIR * number as usize);
+    (begin + PAIR <= s.len()).then_some(begin)
 }
 
-// Whether there is a new entry of this number.
-fn has_new(s: &[u8], number: u64) -> bool
-    requires { length s.now ≤ longest_bundle }
-    ensures { result ≡ (ltb number (new_count s.now) && leb (new_at s.now + (1 + 2 * (number + 1))) (length s.now)) }
-{
-    if s.len() == 0 {
-        return false;
-    }
-    if !olds_end(s, old_count(s)) {
-        return false;
-    }
-    let at = new_at(s);
-    if at == s.len() {
-        return false;
-    }
-    let count = s[at] as u64;
-    if count <= number {
-        return false;
-    }
-    at + (1 + PAIR * (number as usize + 1)) <= s.len()
-}
-
-// Whether a list has an entry of this number.
-pub fn has_entry(s: &[u8], list: u8, number: u64) -> bool
-    ensures { result ≡ has_entry s.now list number }
+// The entry of this number of a list.
+pub fn find_entry(s: &[u8], list: u8, number: u64) -> Option<usize>
+    ensures { result ≡ then_some (has_entry s.now list number) (entry_at s.now list number) }
 {
     if LONGEST < s.len() {
-        return false;
+        return None;
     }
-    if list == OLD {
-        return has_old(s, number);
+    match EntryList::try_from(list) {
+        Ok(EntryList::Old) => old_entry(s, number),
+        Ok(EntryList::New) => new_entry(s, number),
+        Err(_) => None,
     }
-    if list == NEW {
-        return has_new(s, number);
-    }
-    false
-}
-
-// Where the entry of this number begins.
-pub fn entry_at(s: &[u8], list: u8, number: u64) -> usize
-    requires { has_entry s.now list number ≡ true }
-    ensures { result ≡ entry_at s.now list number }
-{
-    if list == OLD {
-        return old_at(s, number as usize);
-    }
-    new_at(s) + (1 + PAIR * number as usize)
 }

@@ -6,11 +6,6 @@ mod entry;
 
 pub use calls::{mahqurith_bundle_mark, mahqurith_bundle_position};
 
-// The lists of a bundle by their numbers.
-pub const OLD: u8 = 0;
-
-pub const NEW: u8 = 1;
-
 // An answer, and the position of an entry: zero where the answer is a refusal.
 #[repr(C)]
 #[derive(Clone, Copy)]

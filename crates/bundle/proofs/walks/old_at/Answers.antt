@@ -1,25 +1,18 @@
 use mathlib.Core.Path.{◌≡◌, refl, ap, ◌∙◌}
+use mathlib.Core.Bool.{Bool}
+use borrow.Author.Tests.{le-leb}
+use Rattle.std.specs.Bool.{then_some}
+use Rattle.std.specs.Prelude.{Some}
 use Rattle.rules.specs.Bundle.{old_at}
-use Rattle.bundle.proofs.Places.{old_step, old_ends}
-use native.Mathlib.Omega.{arith}
 use Rattle.bundle.proofs.walks.old_at.Goals as goal
+use Rattle.bundle.proofs.walks.old_at.Goals.{After-old_end}
 
-pub loop-init : goal.loop-init
-unfolding old_at
-loop-init c = refl
+-- the entries end within
+found : (c : After-old_end) → c.old_end.result ≡ Some (old_at c.args.s.now c.args.i)
+found c = c.old_end.ensures ∙ ap (λ (b : Bool). then_some b (old_at c.args.s.now c.args.i)) (le-leb _ _ c.requires.0)
 
-pub next_old-at-requires : goal.next_old-at-requires
-next_old-at-requires c =
-    let a = c.args in
-    let p = c.requires in
-    (omega (arith, old_ends a.s.now c.loop.counter a.i (omega arith)), p.1)
-
-pub loop-preserved : goal.loop-preserved
-loop-preserved c = let l = c.loop in old_step c.args.s.now l.counter l.at l.invariant c.next_old-at.ensures
+pub unwrap-requires : goal.unwrap-requires
+unwrap-requires c = rw (found c) refl
 
 pub returns : goal.returns
-returns c =
-    let a = c.args in
-    let l = c.loop in
-    let e : l.counter ≡ a.i = omega arith in
-    l.invariant ∙ ap (old_at a.s.now) e
+returns c = let e = found (goal.at.returns c).After-old_end in cc
