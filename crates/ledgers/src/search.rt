@@ -12,6 +12,7 @@ use refusals::Refusal;
 use rules::Head;
 
 // The number of the row of a ledger that has to be there, or what refuses the call first.
+#[tactic(auto, using(crate::proofs::Actives::unready_first, crate::proofs::Actives::ready_first), unfolding(refusals::specs::Order::first))]
 pub fn seek_row(
     head: Head,
     table: &[u8],

@@ -21,7 +21,7 @@ use Rattle.rules.specs.Rows.{is_absent, sought, receipt_of}
 use Rattle.rules.specs.Companies.{most_of_one}
 use Rattle.rules.specs.New.{new_refusal}
 use Rattle.rules.proofs.Companies.{own}
-use Rattle.ledgers.proofs.Actives.{ready_first}
+use Rattle.ledgers.proofs.Actives.{unready_first, ready_first}
 
 module _ (k : Lent) (label : List ℕ) where
   -- a keeper that is ready leaves the answer to the label
@@ -36,6 +36,11 @@ module _ (k : Lent) (label : List ℕ) where
       ∷ [])
   unfolding new_refusal
   labelled e = ready_first receipt_size k _ accepted e refl
+
+  -- one that is not ready decides it
+  pub unready : (n : ℕ) → n ≡ first (readiness receipt_size active not_active k) → (n ≡ accepted → ⊥) → new_refusal k label ≡ n
+  unfolding new_refusal
+  unready n e refuses = unready_first receipt_size k _ n e refuses
 
   pub no_height : eqb (new_refusal k label) out_of_order ≡ false
   unfolding new_refusal readiness lending lacks

@@ -12,6 +12,7 @@ const BORDER: u8 = 128;
 const MOST_OF_ONE: usize = 31;
 
 // Whether a label of this first byte belongs to the company, true for the first.
+#[tactic(auto, unfolding(rules::specs::Companies::company, rules::specs::Companies::belongs))]
 fn is_theirs(byte: u8, first: bool) -> bool
     ensures { result ≡ belongs (byte ∷ []) first }
 {
@@ -19,6 +20,7 @@ fn is_theirs(byte: u8, first: bool) -> bool
 }
 
 // How many of the first rows belong to the company.
+#[tactic(auto, using(rules::proofs::Companies::row_counted, rules::proofs::Companies::rows_most), unfolding(rules::specs::Companies::company_rows))]
 fn count_theirs(table: &[u8], count: usize, first: bool) -> usize
     requires { (count ≤ most_rows) × (length table.now ≡ table_bytes) }
     ensures { result ≡ company_rows count table.now first }
@@ -33,6 +35,7 @@ fn count_theirs(table: &[u8], count: usize, first: bool) -> usize
 }
 
 // Whether the label's company has the rows already that it may get.
+#[tactic(auto, unfolding(rules::specs::Companies::company))]
 pub fn is_company_full(table: &[u8], count: usize, label: [u8; 16]) -> bool
     requires { (count ≤ most_rows) × (length table.now ≡ table_bytes) }
     ensures { result ≡ leb most_of_one (company_rows count table.now (company label)) }

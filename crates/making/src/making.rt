@@ -27,6 +27,7 @@ fn one_more(head: Head) -> Head
 }
 
 // The number of the new row, or what refuses it first.
+#[tactic(auto, using(crate::proofs::Makes::unready, crate::proofs::Makes::labelled), unfolding(refusals::specs::Order::first))]
 fn check_new(head: Head, table: &[u8], label: [u8; 16], area: &[u8]) -> Result<usize, Refusal>
     ensures answer { answer_of result ≡ new_refusal (record { head = head; table = table.now; area = area.now }) label }
     ensures place { IfOk result (λ i. i ≡ row_number (find head.count table.now label)) }

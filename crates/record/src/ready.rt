@@ -9,6 +9,7 @@ use refusals::Refusal;
 use rules::Head;
 
 // Refuses by room and soundness.
+#[tactic(auto, unfolding(refusals::specs::Order::first, rules::specs::Outcomes::lending))]
 pub fn check_lent(head: Head, table: &[u8], area: &[u8], size: usize) -> Result<(), Refusal>
     ensures { answer_of result ≡ first (lending size (record { head = head; table = table.now; area = area.now })) }
 {
@@ -22,6 +23,7 @@ pub fn check_lent(head: Head, table: &[u8], area: &[u8], size: usize) -> Result<
 }
 
 // Refuses by them and by the status; `otherwise` is the refusal of another status.
+#[tactic(auto, unfolding(refusals::specs::Order::first, rules::specs::Outcomes::lending, rules::specs::Outcomes::readiness))]
 pub fn check_ready(
     head: Head,
     table: &[u8],

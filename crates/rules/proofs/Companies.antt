@@ -47,6 +47,12 @@ pub rows_more : (n : ℕ) (rows : List ℕ) (of : Bool) → company_rows (n + 1)
 unfolding company_rows
 rows_more n rows of = rw (add-one n)
 
+-- a row more, by its first byte
+pub row_counted :
+    (n : ℕ) (rows : List ℕ) (of : Bool)
+    → company_rows (n + 1) rows of ≡ company_rows n rows of + cond (belongs (get_or rows (row_bytes * n) 0 ∷ []) of) 1 0
+row_counted n rows of = rows_more n rows of ∙ ap (λ (b : Bool). company_rows n rows of + cond b 1 0) (sym (row_belongs rows n of))
+
 -- each row belongs to one of the two
 one_of_two : (label : List ℕ) (of : Bool) → cond (belongs label of) 1 0 + cond (belongs label (not of)) 1 0 ≡ 1
 unfolding belongs
