@@ -23,56 +23,45 @@ pub fn nonce_in(kind: Kind) -> [u8; NONCE]
     ensures { result ≡ nonce_in kind }
 {
     match kind {
-        Kind::Blank => [0u8; NONCE],
-        Kind::New => [0u8; NONCE],
-        Kind::Append { height: _ } => [0u8; NONCE],
         Kind::Read {
-            height: _,
             nonce_high,
             nonce_low,
+            ..
         } => nonce_of(nonce_high, nonce_low),
-        Kind::Finalise => [0u8; NONCE],
-        Kind::Initialise => [0u8; NONCE],
+        Kind::Blank | Kind::New | Kind::Append { .. } | Kind::Finalise | Kind::Initialise => {
+            [0u8; NONCE]
+        }
     }
 }
 
 // The kind of a number, with a height and a nonce where it has one.
+#[tactic(auto, unfolding(crate::specs::Contents::kind_named))]
 fn kind_named(number: u8, height: u64, nonce: &[u8; NONCE]) -> Kind
     ensures { result ≡ kind_named number height nonce.now }
 {
-    if number == NEW {
-        return Kind::New;
-    }
-    if number == APPEND {
-        return Kind::Append { height };
-    }
-    if number == READ {
-        return Kind::Read {
+    match number {
+        NEW => Kind::New,
+        APPEND => Kind::Append { height },
+        READ => Kind::Read {
             height,
             nonce_high: number_at(nonce, 0),
             nonce_low: number_at(nonce, NUMBER),
-        };
+        },
+        FINALISE => Kind::Finalise,
+        INITIALISE => Kind::Initialise,
+        _ => Kind::Blank,
     }
-    if number == FINALISE {
-        return Kind::Finalise;
-    }
-    if number == INITIALISE {
-        return Kind::Initialise;
-    }
-    Kind::Blank
 }
 
 // The kind of a number, if it has this height and this nonce.
+#[tactic(auto, unfolding(crate::specs::Contents::kind_of))]
 pub fn kind_of(number: u8, height: u64, nonce: &[u8; NONCE]) -> Kind
     ensures { result ≡ kind_of number height nonce.now }
 {
     let kind = kind_named(number, height, nonce);
-    if desk::height_in(kind) != height {
-        return Kind::Blank;
+    if desk::height_in(kind) == height && is_same(&nonce_in(kind), nonce) {
+        kind
+    } else {
+        Kind::Blank
     }
-    let its_nonce = nonce_in(kind);
-    if !is_same(&its_nonce, nonce) {
-        return Kind::Blank;
-    }
-    kind
 }

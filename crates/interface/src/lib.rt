@@ -78,11 +78,3 @@ pub struct StatementRead {
     pub number: u32,
     pub statement: Plain,
 }
-
-// The answer of a writing, and how many bytes of the area were written.
-#[repr(C)]
-#[derive(Clone, Copy)]
-pub struct Written {
-    pub number: u32,
-    pub written: usize,
-}

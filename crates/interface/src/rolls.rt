@@ -2,7 +2,8 @@
 ghost use Rattle.std.specs.Prelude.{◌≡◌};
 ghost use Rattle.interface.specs.Calls.{reading_roll, writing_roll};
 
-use crate::{Roll, RollRead, Written};
+use crate::{Roll, RollRead};
+use refusals::Written;
 use rows::TABLE;
 
 // Takes a roll apart.
@@ -30,11 +31,5 @@ pub extern "C" fn mahqurith_read_roll(bytes: &[u8]) -> RollRead
 pub extern "C" fn mahqurith_write_roll(roll: Roll, area: &mut [u8]) -> Written
     ensures { record { answer = result.number; count = result.written; area = area.new } ≡ writing_roll roll area.old }
 {
-    let rows = roll.rows;
-    let table = table::flat(rows);
-    let written = refusals::Written::from(roll::write_roll(roll.count, &table, area));
-    Written {
-        number: written.number,
-        written: written.written,
-    }
+    Written::from(roll::write_roll(roll.count, &table::flat(roll.rows), area))
 }

@@ -4,68 +4,83 @@ ghost use Rattle.interface.specs.Contents.{no_plain, plain_of, statement_of};
 ghost use Rattle.interface.specs.Calls.{reading_statement, writing_statement};
 
 use crate::kinds::{kind_of, nonce_in};
-use crate::{NONCE, Plain, StatementRead, Written};
+use crate::{NONCE, Plain, StatementRead};
+use refusals::Written;
 use statement::{DIGEST, LABEL, Statement};
 
-fn plain_of(v: Statement) -> Plain
-    ensures { result ≡ plain_of v }
-{
-    let kind = v.kind;
-    let identity = v.identity;
-    let own = v.own;
-    let other = v.other;
-    let roll = v.roll;
-    let label = v.label;
-    let tail = v.tail;
-    let nonce = nonce_in(kind);
-    Plain {
-        kind: kind.number(),
-        identity,
-        own,
-        other,
-        roll,
-        label,
-        tail,
-        nonce,
-        height: desk::height_in(kind),
+impl Plain {
+    // Every field zero.
+    fn none() -> Plain
+        ensures { result ≡ no_plain }
+    {
+        Plain {
+            kind: 0,
+            identity: [0; DIGEST],
+            own: [0; DIGEST],
+            other: [0; DIGEST],
+            roll: [0; DIGEST],
+            label: [0; LABEL],
+            tail: [0; DIGEST],
+            nonce: [0; NONCE],
+            height: 0,
+        }
     }
 }
 
-fn no_plain() -> Plain
-    ensures { result ≡ no_plain }
-{
-    Plain {
-        kind: 0,
-        identity: [0; DIGEST],
-        own: [0; DIGEST],
-        other: [0; DIGEST],
-        roll: [0; DIGEST],
-        label: [0; LABEL],
-        tail: [0; DIGEST],
-        nonce: [0; NONCE],
-        height: 0,
+impl From<Statement> for Plain {
+    ghost from_gives = { λ v p. p ≡ plain_of v };
+
+    #[tactic(auto, unfolding(crate::specs::Contents::plain_of))]
+    fn from(v: Statement) -> Plain {
+        let Statement {
+            kind,
+            identity,
+            own,
+            label,
+            tail,
+            other,
+            roll,
+        } = v;
+        let nonce = nonce_in(kind);
+        Plain {
+            kind: kind.number(),
+            identity,
+            own,
+            other,
+            roll,
+            label,
+            tail,
+            nonce,
+            height: desk::height_in(kind),
+        }
     }
 }
 
-fn statement_of(p: Plain) -> Statement
-    ensures { result ≡ statement_of p }
-{
-    let identity = p.identity;
-    let own = p.own;
-    let other = p.other;
-    let roll = p.roll;
-    let label = p.label;
-    let tail = p.tail;
-    let nonce = p.nonce;
-    let kind = kind_of(p.kind, p.height, &nonce);
-    Statement {
-        kind,
-        identity,
-        own,
-        label,
-        tail,
-        other,
-        roll,
+impl From<Plain> for Statement {
+    ghost from_gives = { λ p v. v ≡ statement_of p };
+
+    #[tactic(auto, unfolding(crate::specs::Contents::statement_of))]
+    fn from(p: Plain) -> Statement {
+        let Plain {
+            kind: number,
+            identity,
+            own,
+            other,
+            roll,
+            label,
+            tail,
+            nonce,
+            height,
+        } = p;
+        Statement {
+            kind: kind_of(number, height, &nonce),
+            identity,
+            own,
+            label,
+            tail,
+            other,
+            roll,
+        }
     }
 }
 
@@ -77,11 +92,11 @@ pub extern "C" fn mahqurith_read_statement(bytes: &[u8]) -> StatementRead
     match statement::read_statement(bytes) {
         Ok(v) => StatementRead {
             number: refusals::ACCEPTED,
-            statement: plain_of(v),
+            statement: Plain::from(v),
         },
         Err(refusal) => StatementRead {
             number: refusal.number(),
-            statement: no_plain(),
+            statement: Plain::none(),
         },
     }
 }
@@ -91,15 +106,5 @@ pub extern "C" fn mahqurith_read_statement(bytes: &[u8]) -> StatementRead
 pub extern "C" fn mahqurith_write_statement(statement: Plain, area: &mut [u8]) -> Written
     ensures { record { answer = result.number; count = result.written; area = area.new } ≡ writing_statement statement area.old }
 {
-    let v = statement_of(statement);
-    match statement::write_statement(v, area) {
-        Ok(written) => Written {
-            number: refusals::ACCEPTED,
-            written,
-        },
-        Err(refusal) => Written {
-            number: refusal.number(),
-            written: 0,
-        },
-    }
+    Written::from(statement::write_statement(Statement::from(statement), area))
 }

@@ -4,7 +4,7 @@ ghost use Rattle.hash.specs.Promise.{hashing};
 ghost use Rattle.rows.specs.Digests.{appended};
 ghost use Rattle.interface.specs.Calls.{digesting_rack};
 
-use interface::Written;
+use refusals::Written;
 use rows::{DIGEST, TAIL};
 
 // SHA-256 of the message is stored in the digest area, or the message is too long and nothing changes.

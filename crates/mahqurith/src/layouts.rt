@@ -2,7 +2,8 @@
 ghost use Rattle.std.specs.Prelude.{◌≡◌};
 ghost use Rattle.interface.specs.Calls.{reading_rack, writing_rack, reading_roll, writing_roll, reading_statement, writing_statement};
 
-use interface::{Plain, Rack, RackRead, Roll, RollRead, StatementRead, Written};
+use interface::{Plain, Rack, RackRead, Roll, RollRead, StatementRead};
+use refusals::Written;
 
 // Takes a rack apart.
 #[unsafe(no_mangle)]

@@ -1,27 +1,10 @@
-use mathlib.Core.Path.{◌≡◌, refl, sym, ap, ◌∙◌}
-use mathlib.Core.List.{map}
 use native.Mathlib.Omega.{arith}
-use lib.ListN.{length, length-set}
-use lib.Seq.{take_all}
-use Rattle.rack.specs.Racks.{most}
-use Rattle.interface.specs.Contents.{bytes_in, keys_of}
-use Rattle.interface.proofs.Mapped.{mapped_next}
+use borrow.Author.Rules.{rules}
+use mathlib.Core.List.{[]}
+use Rattle.interface.specs.Contents.{bytes_in, key_of, keys_of}
+use Rattle.interface.proofs.Mapped.{mapped_by}
 use Rattle.interface.proofs.racks.keys_of.Goals as goal
-
-pub loop-i-init : goal.loop-i-init
-loop-i-init c = (omega arith, refl, refl)
-
-pub loop-i-preserved : goal.loop-i-preserved
-loop-i-preserved c =
-    let l = c.loop-i in
-    let o = c in
-    let n : length o.args.places ≡ most = o.well_formed.0.1.0.1 in
-    (omega arith, length-set l.keys l.i _ ∙ l.invariant.1, mapped_next bytes_in o.args.places l.keys l.i _ _ (omega arith) (omega arith) l.invariant.2 refl)
 
 pub returns : goal.returns
 unfolding keys_of
-returns c =
-    let l = c.loop-i in
-    let o = c in
-    let n : length o.args.places ≡ most = o.well_formed.0.1.0.1 in
-    sym (take_all l.i l.keys (omega arith)) ∙ l.invariant.2 ∙ ap (map bytes_in) (take_all l.i o.args.places (omega arith))
+returns c = mapped_by _ bytes_in (key_of []) _ c.args.places c.map.result _ (omega (arith, c.well_formed)) c.map.ensures.items (λ p q x y k. search rules)

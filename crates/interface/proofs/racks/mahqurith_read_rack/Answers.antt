@@ -1,14 +1,8 @@
-use mathlib.Core.Path.{◌≡◌, ap, ap₂, ◌∙◌}
-use mathlib.Core.List.{List}
-use Prim.Native.Nat.{ℕ}
-use Rattle.refusals.specs.{accepted}
-use Rattle.interface.specs.declared.Key.{Key}
-use Rattle.interface.specs.declared.RackRead.{RackRead}
 use Rattle.interface.proofs.Given.{rack_taken}
 use Rattle.interface.proofs.racks.mahqurith_read_rack.Goals as goal
 
 pub returns-in-Ok : goal.returns-in-Ok
-returns-in-Ok c = rw c.places_of.ensures (rack_taken _ _ c.in-Ok.ensures)
+returns-in-Ok c = rw c.places_of-keys.ensures (rack_taken _ _ c.in-Ok.ensures)
 
 pub returns-in-Err : goal.returns-in-Err
-returns-in-Err c = rw (c.number.ensures, c.places_of-in-Err.ensures) (rack_taken _ _ c.in-Err.ensures)
+returns-in-Err c = rw (c.number.ensures, c.places_of-keys.ensures) (rack_taken _ _ c.in-Err.ensures)

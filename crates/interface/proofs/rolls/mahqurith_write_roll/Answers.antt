@@ -10,5 +10,5 @@ pub returns : goal.returns
 unfolding roll.writing_roll writing_roll
 returns c =
     let a = c.args in
-    ap (λ (w : Answered). record { answer = w.number; count = w.written; area = c.write_roll.new.area }) c.from-written.ensures
-    ∙ c.write_roll.ensures ∙ ap (λ (t : List ℕ). roll.writing_roll a.roll.count t a.area.now) c.flat-table.ensures
+    ap (λ (w : Answered). record { answer = w.number; count = w.written; area = c.write_roll.new.area }) c.from.ensures
+    ∙ c.write_roll.ensures ∙ ap (λ (t : List ℕ). roll.writing_roll a.roll.count t a.area.now) c.flat.ensures
