@@ -1,14 +1,14 @@
 -- A rack's and a receipt's block, written. 02, M-103: "512-byte blocks, each ending in 01's 4-byte check, unused bytes zero"; refused as 01 has it of its layouts:
 -- "writing one refuses with that number for contents no reading gives, then with 1 for an area too short".
-use Rattle.std.specs.Prelude.{Bool, cond, ◌&&◌, List, [], ◌∷◌, ◌++◌, ℕ, ◌*◌, ◌/◌, length, replicate, eqb, leb, ltb}
+use Rattle.std.specs.Prelude.{Bool, cond, ◌&&◌, List, [], ◌∷◌, ℕ, ◌*◌, ◌/◌, length, replicate, eqb, leb, ltb}
 use Rattle.refusals.specs.{accepted, area_too_short, rack_broken, statement_not_asked}
 use Rattle.octets.specs.Strings.{put}
 use Rattle.octets.specs.Layouts.{Written, unwritten, holds}
 use Rattle.rack.specs.Racks.{most, rack_layout}
 use Rattle.statement.specs.Kinds.{reading_size}
 use Rattle.checks.specs.Check.{block_bytes, checked_bytes, checked}
-use Rattle.receipts.specs.Block.{rack_type, receipt_type, label_place, nonce_place, identity_place, length_place, statement_place, count_place, pairs_place}
-use Rattle.filing.specs.declared.Question.{Question}
+use Rattle.receipts.specs.Block.{rack_type, receipt_type, label_place, nonce_place, identity_place, length_place, count_place}
+use Rattle.desk.specs.declared.Question.{Question}
 
 -- the type, then the rack; zeros behind it
 unfoldable pub rack_body : List ℕ → List ℕ

@@ -1,14 +1,16 @@
 // A rack's block.
 ghost use Rattle.std.specs.Prelude.{◌≡◌, ◌≤◌, length};
+ghost use Rattle.std.specs.Result.{result_unwrap_or};
+ghost use Rattle.refusals.specs.Refused.{answer_of};
 ghost use Rattle.rack.specs.Racks.{most, rack_bytes};
 ghost use Rattle.filing.specs.Filed.{rack_body, rack_filed};
 
-use crate::Written;
-use crate::writing::{refused, write_block};
-use checks::{BLOCK, CHECKED};
+use crate::writing::write_block;
+use checks::CHECKED;
 use octets::copy_at;
 use rack::is_rack;
 use receipts::{RACK, RACK_PLACE};
+use refusals::{Refusal, Written};
 
 // The type, the rack, and zeros.
 fn rack_body(rack: &[u8]) -> [u8; CHECKED]
@@ -21,17 +23,20 @@ fn rack_body(rack: &[u8]) -> [u8; CHECKED]
     body
 }
 
+// Puts a rack's block at the front of an area.
+fn put_rack(rack: &[u8], area: &mut [u8]) -> Result<usize, Refusal>
+    ensures { record { answer = answer_of result; count = result_unwrap_or result 0; area = area.new } ≡ rack_filed rack.now area.old }
+{
+    if !is_rack(rack) {
+        return Err(Refusal::RackBroken);
+    }
+    write_block(rack_body(rack), area)
+}
+
 // Writes a rack's block as the first bytes of an area.
 #[unsafe(no_mangle)]
 pub extern "C" fn mahqurith_write_rack_block(rack: &[u8], area: &mut [u8]) -> Written
     ensures { record { answer = result.number; count = result.written; area = area.new } ≡ rack_filed rack.now area.old }
 {
-    if !is_rack(rack) {
-        return refused(refusals::RACK_BROKEN);
-    }
-    if area.len() < BLOCK {
-        return refused(refusals::AREA_TOO_SHORT);
-    }
-    let body = rack_body(rack);
-    write_block(body, area)
+    Written::from(put_rack(rack, area))
 }

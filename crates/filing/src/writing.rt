@@ -1,29 +1,23 @@
 // A block's first bytes and their check, at the front of an area.
-ghost use Rattle.std.specs.Prelude.{◌≡◌, ◌≤◌, length};
-ghost use Rattle.octets.specs.Strings.{put};
-ghost use Rattle.checks.specs.Check.{block_bytes, checked};
+ghost use Rattle.std.specs.Prelude.{◌≡◌, true, ℕ};
+ghost use Rattle.std.specs.Result.{result_unwrap_or};
+ghost use Rattle.refusals.specs.Refused.{answer_of};
+ghost use Rattle.filing.specs.Filed.{filed};
 
-use crate::Written;
 use checks::{BLOCK, CHECKED, check_of};
 use octets::copy_at;
+use refusals::Refusal;
 
-// A refusal.
-pub fn refused(number: u32) -> Written
-    ensures { result ≡ record { number = number; written = 0 } }
+// Writes a block, where the area has room for it.
+#[tactic(auto, using(crate::proofs::Filing::check_behind), unfolding(crate::specs::Filed::filed, octets::specs::Layouts::unwritten))]
+pub fn write_block(body: [u8; CHECKED], area: &mut [u8]) -> Result<usize, Refusal>
+    ensures { (broken : ℕ) → record { answer = answer_of result; count = result_unwrap_or result 0; area = area.new } ≡ filed true broken body area.old }
 {
-    Written { number, written: 0 }
-}
-
-// Writes a block.
-pub fn write_block(body: [u8; CHECKED], area: &mut [u8]) -> Written
-    requires { block_bytes ≤ length area.old }
-    ensures { (result ≡ record { number = 0; written = block_bytes }) × (area.new ≡ put area.old 0 (checked body)) }
-{
+    if area.len() < BLOCK {
+        return Err(Refusal::AreaTooShort);
+    }
     let check = check_of(&body);
     copy_at(area, 0, &body);
     copy_at(area, CHECKED, &check);
-    Written {
-        number: refusals::ACCEPTED,
-        written: BLOCK,
-    }
+    Ok(BLOCK)
 }

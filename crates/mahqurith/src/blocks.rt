@@ -2,7 +2,8 @@
 ghost use Rattle.std.specs.Prelude.{◌≡◌};
 ghost use Rattle.filing.specs.Filed.{rack_filed, receipt_filed};
 
-use filing::{Question, Written};
+use desk::Question;
+use refusals::Written;
 
 // Writes a rack's block as the first bytes of an area.
 #[unsafe(no_mangle)]

@@ -51,6 +51,6 @@ returns c =
     c.put_counted-2.ensures
     ∙ ap (λ (x : List ℕ). put x 204 (length signers / 2 ∷ signers)) (c.put_counted.ensures
     ∙ ap (λ (x : List ℕ). put x 66 (length s ∷ s)) (c.copy_at-4.ensures
-    ∙ ap (λ (x : List ℕ). put x 34 a.identity) (c.copy_at-3.ensures
-    ∙ ap (λ (x : List ℕ). put x 18 a.nonce) (c.copy_at-2.ensures
-    ∙ ap (λ (x : List ℕ). put x 2 a.label) c.copy_at.ensures))))
+    ∙ ap (λ (x : List ℕ). put x 34 a.question.identity) (c.copy_at-3.ensures
+    ∙ ap (λ (x : List ℕ). put x 18 a.question.nonce) (c.copy_at-2.ensures
+    ∙ ap (λ (x : List ℕ). put x 2 a.question.label) c.copy_at.ensures))))
