@@ -1,5 +1,5 @@
 -- Laws of the tests of an append of many in parts: what each leaves to the next, the answer, and where the row is. Assumes nothing.
-use mathlib.Core.Path.{◌≡◌, refl, sym, ap, ◌∙◌}
+use mathlib.Core.Path.{◌≡◌, refl, sym, ap, ap₂, ◌∙◌}
 use mathlib.Core.Bool.{true, false}
 use mathlib.Core.List.{List, ◌∷◌}
 use Prim.Native.Nat.{ℕ, ◌+◌, ◌-◌, ◌≤◌, ◌<◌}
@@ -9,7 +9,11 @@ use borrow.Author.Tests.{lt-ltb, le-ltb, eqb-false}
 use lib.ListN.{length}
 use lib.Dec.{eqb, ltb}
 use Rattle.refusals.specs.{accepted, no_such_ledger, out_of_order, not_active}
+use Rattle.refusals.specs.declared.Refusal.{Refusal}
+use Rattle.refusals.specs.declared.Refusal.TheVariants.{NoSuchLedger}
 use Rattle.refusals.specs.Order.{Test, ◌⇒◌, first}
+use Rattle.refusals.specs.Refused.{refusal_number}
+use Rattle.refusals.proofs.Answered.{number_refuses}
 use Rattle.refusals.proofs.Orders.{numbered, stops, goes_on, lacks, lacking}
 use Rattle.std.specs.Prelude.{Ok, Err}
 use Rattle.rows.specs.Sizes.{most_rows, table_bytes, top_height}
@@ -19,12 +23,15 @@ use Rattle.rows.proofs.Tables.{fit_length, fit_count}
 use Rattle.rows.proofs.Searches.{found_is}
 use Rattle.statement.specs.Kinds.{receipt_size}
 use Rattle.rules.specs.Record.{active}
-use Rattle.rules.specs.Outcomes.{Lent, refusing, lending, readiness}
+use Rattle.rules.specs.declared.Answer.{Answer}
+use Rattle.rules.specs.declared.Told.{Told}
+use Rattle.rules.specs.Outcomes.{Lent, refusing, told_place, lending, readiness}
+use Rattle.rules.proofs.Tolds.{refusing_alone}
 use Rattle.rules.specs.Rows.{is_absent, row_number, sought, present_tail, present_height}
 use Rattle.rules.specs.AppendMany.{entries, append_many_refusal}
 use Rattle.rules.proofs.Firsts.{ready, sound_rows}
 use Rattle.rules.proofs.FoundRows.{row_found, row_below}
-use Rattle.recording.specs.Tests.{listed, ordered}
+use Rattle.recording.specs.Tests.{listed, ordered, many_told}
 
 module _ (k : Lent) (label list : List ℕ) (expected n : ℕ) (e : n ≡ first (listed k list)) where
   -- the tests after the list's
@@ -44,21 +51,23 @@ module _ (k : Lent) (label list : List ℕ) (expected n : ℕ) (e : n ≡ first 
   other = ap (λ (m : ℕ). eqb m out_of_order) e ∙ lacking out_of_order (listed k list) refl
 
   -- before the tests of the heights a refusal shows no height
-  pub unlisted_answer : (n ≡ accepted → ⊥) → refusing n 0 ≡ refusing (append_many_refusal receipt_size k label list expected) (present_height k label)
-  unlisted_answer refuses = rw (unlisted_many refuses, other)
+  pub unlisted_told : (r : Refusal) → refusal_number r ≡ n → told_place k.head 0 (Err r) ≡ many_told k label list expected
+  unlisted_told r f =
+      let same = unlisted_many (λ z. number_refuses r (f ∙ z)) in
+      ap (λ (x : Answer). record { answer = x; head = k.head })
+      (refusing_alone r _ (present_height k label) (f ∙ sym same) (ap (λ (m : ℕ). eqb m out_of_order) same ∙ other))
 
   module _ (accepts : n ≡ accepted) where
     pub fit : rows_fit k.head.count k.table ≡ true
     fit = sound_rows k.head k.table (ready receipt_size active not_active k _ (eqb-false 4 0 refl) (sym e ∙ accepts)).0.sounds
 
-    pub absent_answer :
-        (i : ℕ) → sought k label ≡ Err i
-        → refusing no_such_ledger 0 ≡ refusing (append_many_refusal receipt_size k label list expected) (present_height k label)
+    pub absent_told : (i : ℕ) → sought k label ≡ Err i → told_place k.head 0 (Err NoSuchLedger) ≡ many_told k label list expected
     unfolding first
-    absent_answer i f = sym (ap (λ (m : ℕ). refusing m (present_height k label)) (listed_many accepts ∙ rw (ap is_absent f)))
+    absent_told i f =
+        sym (ap (λ (m : ℕ). record { answer = refusing m (present_height k label); head = k.head }) (listed_many accepts ∙ rw (ap is_absent f)))
 
     module _ (i : ℕ) (f : sought k label ≡ Ok i) where
-      pub found_many : append_many_refusal receipt_size k label list expected ≡ first (ordered expected (present_height k label) (entries list))
+      found_many : append_many_refusal receipt_size k label list expected ≡ first (ordered expected (present_height k label) (entries list))
       unfolding first
       found_many = listed_many accepts ∙ rw (ap is_absent f)
 
@@ -69,8 +78,17 @@ module _ (k : Lent) (label list : List ℕ) (expected n : ℕ) (e : n ≡ first 
       pub table_long : length k.table ≡ table_bytes
       table_long = fit_length k.head.count k.table fit
 
-      pub height_there : height_of k.table i ≡ present_height k label
+      height_there : height_of k.table i ≡ present_height k label
       height_there = sym (ap (λ g. height_of k.table (row_number g)) f)
+
+      -- a found ledger leaves the answer to the heights
+      pub found_told :
+          (h m : ℕ) → h ≡ height_of k.table i → first (ordered expected h (entries list)) ≡ m
+          → ◌≡◌ {A = Told} (record { answer = refusing m h; head = k.head }) (many_told k label list expected)
+      found_told h m p g =
+          let q = p ∙ height_there in
+          ap₂ (λ (a b : ℕ). record { answer = refusing a b; head = k.head })
+          (sym g ∙ ap (λ (x : ℕ). first (ordered expected x (entries list))) q ∙ sym found_many) q
 
       pub height_below : height_of k.table i ≤ top_height
       height_below =

@@ -1,95 +1,62 @@
 // The tests of an append of many, in their order.
-ghost use Rattle.std.specs.Prelude.{◌≡◌, ◌≤◌};
+ghost use Rattle.std.specs.Prelude.{◌≡◌, IfOk};
 ghost use Rattle.refusals.specs.Order.{first};
-ghost use Rattle.rows.specs.Sizes.{top_height};
+ghost use Rattle.refusals.specs.Refused.{answer_of};
 ghost use Rattle.rows.specs.Search.{find};
-ghost use Rattle.rules.specs.Outcomes.{Lent};
+ghost use Rattle.rules.specs.Outcomes.{Lent, told_place};
+ghost use Rattle.rules.specs.Rows.{row_number};
 ghost use Rattle.rules.specs.AppendMany.{is_list};
-ghost use Rattle.ledgers.specs.Tests.{place_if};
-ghost use Rattle.recording.specs.Tests.{listed, ordered, many_told};
+ghost use Rattle.recording.specs.Tests.{listed, many_told};
 
 use crate::MOST_ENTRIES;
-use appending::{Moved, is_next};
-use record::{ACTIVE, refusal, unready};
-use rows::{DIGEST, TOP, find, height_at};
+use record::{ACTIVE, check_ready};
+use refusals::Refusal;
+use rows::{DIGEST, TOP, find, height_at, is_next};
 use rules::Head;
 use statement::RECEIPT_SIZE;
 
 // Whether a list is 1 to 32 digests, and whole ones.
+#[tactic(auto, unfolding(rules::specs::AppendMany::is_list))]
 fn is_list(list: &[u8]) -> bool
     ensures { result ≡ is_list list.now }
 {
-    if list.len() % DIGEST != 0 {
-        return false;
-    }
     let n = list.len() / DIGEST;
-    if n < 1 {
-        return false;
-    }
-    n <= MOST_ENTRIES
+    list.len() % DIGEST == 0 && 1 <= n && n <= MOST_ENTRIES
 }
 
-// The first refusal before the search, or 0.
-fn unlisted(head: Head, table: &[u8], list: &[u8], area: &[u8]) -> u32
-    ensures { result ≡ first (listed (record { head = head; table = table.now; area = area.now }) list.now) }
+// Refuses before the search.
+fn check_listed(head: Head, table: &[u8], list: &[u8], area: &[u8]) -> Result<(), Refusal>
+    ensures { answer_of result ≡ first (listed (record { head = head; table = table.now; area = area.now }) list.now) }
 {
-    let n = unready(
-        head,
-        table,
-        area,
-        RECEIPT_SIZE,
-        ACTIVE,
-        refusals::NOT_ACTIVE,
-    );
-    if n != refusals::ACCEPTED {
-        return n;
-    }
+    check_ready(head, table, area, RECEIPT_SIZE, ACTIVE, Refusal::NotActive)?;
     if !is_list(list) {
-        return refusals::LIST_OF_WRONG_LENGTH;
+        return Err(Refusal::ListOfWrongLength);
     }
-    refusals::ACCEPTED
+    Ok(())
 }
 
-// The first refusal of the heights where so many entries follow, or 0.
-fn unordered(expected: u64, height: u64, n: u64) -> u32
-    requires { height ≤ top_height }
-    ensures { result ≡ first (ordered expected height n) }
-{
-    if !is_next(expected, height) {
-        return refusals::OUT_OF_ORDER;
-    }
-    if TOP - height < n {
-        return refusals::HEIGHT_AT_TOP;
-    }
-    refusals::ACCEPTED
-}
-
-// The answer of a refused call; its number is 0 where nothing refuses, and the row is found.
-pub fn refusal_of_many(
+// The number of the row that an append of many moves on, or what refuses it first.
+pub fn check_many(
     head: Head,
     table: &[u8],
     label: [u8; 16],
     list: &[u8],
     expected: u64,
     area: &[u8],
-) -> Moved
-    ensures told { result.told ≡ many_told (record { head = head; table = table.now; area = area.now }) label list.now expected }
-    ensures place { result.place ≡ place_if result.told.answer.number (find head.count table.now label) }
+) -> Result<usize, Refusal>
+    ensures told { told_place head 0 result ≡ many_told (record { head = head; table = table.now; area = area.now }) label list.now expected }
+    ensures place { IfOk result (λ i. i ≡ row_number (find head.count table.now label)) }
 {
-    let n = unlisted(head, table, list, area);
-    if n != refusals::ACCEPTED {
-        let told = refusal(n, 0, head);
-        return Moved { told, place: 0 };
-    }
-    let Ok(i) = find(table, head.count as usize, label) else {
-        let told = refusal(refusals::NO_SUCH_LEDGER, 0, head);
-        return Moved { told, place: 0 };
+    check_listed(head, table, list, area)?;
+    let Ok(place) = find(table, usize::from(head.count), label) else {
+        return Err(Refusal::NoSuchLedger);
     };
-    let height = height_at(table, i);
-    let number = unordered(expected, height, (list.len() / DIGEST) as u64);
-    let told = refusal(number, height, head);
-    if number != refusals::ACCEPTED {
-        return Moved { told, place: 0 };
+    let height = height_at(table, place);
+    if !is_next(expected, height) {
+        return Err(Refusal::OutOfOrder { height });
     }
-    Moved { told, place: i }
+    if TOP - height < (list.len() / DIGEST) as u64 {
+        return Err(Refusal::HeightAtTop);
+    }
+    Ok(place)
 }

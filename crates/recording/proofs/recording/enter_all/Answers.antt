@@ -51,18 +51,6 @@ given_receipt c =
     let s = c in
     c.receipt.ensures ∙ ap₂ (λ (x : ℕ) (t : List ℕ). receipt_of s.args.head (Append x) s.args.label t) (heights high) (tails (goal.at.After-receipt c).After-grown-tail)
 
-pub tail_at-requires : goal.tail_at-requires
-tail_at-requires c = let p = c.requires in (omega (arith, p.0.place, p.1), p.0.long)
-
-pub height_at-requires : goal.height_at-requires
-height_at-requires c = let p = c.requires in (omega (arith, p.0.place, p.1), p.0.long)
-
-pub overflow_add-height : goal.overflow_add-height
-overflow_add-height c = let p = c.requires in omega (arith, heights c, p.0.below_top)
-
-pub move_row-requires : goal.move_row-requires
-move_row-requires c = let p = c.requires in (omega (arith, p.0.place, p.1), p.0.long)
-
 pub give-requires : goal.give-requires
 give-requires c =
     let s = c in
