@@ -9,7 +9,7 @@ ghost use Rattle.appending.specs.Known.{Appendable, Entered};
 ghost use Rattle.appending.specs.Tests.{append_told};
 
 use crate::table::{Shown, move_on};
-use ledgers::{receipt, seek_row};
+use ledgers::{receipt, seek};
 use record::give;
 use refusals::Refusal;
 use rows::{TOP, height_at, is_next};
@@ -28,7 +28,7 @@ pub fn check_append(
     ensures told { told_place head 0 result ≡ append_told size (record { head = head; table = table.now; area = area.now }) label expected }
     ensures place { IfOk result (λ i. i ≡ row_number (find head.count table.now label)) }
 {
-    let place = seek_row(head, table, label, area, size)?;
+    let place = seek(head, table, label, area, size)?;
     let height = height_at(table, place);
     if !is_next(expected, height) {
         return Err(Refusal::OutOfOrder { height });

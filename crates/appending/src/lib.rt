@@ -6,5 +6,5 @@ mod before;
 mod table;
 
 pub use appending::{append, check_append, enter};
-pub use before::{Moved, is_next, refusal_of_append};
+pub use before::{Moved, is_next};
 pub use table::{Shown, move_row};

@@ -5,4 +5,4 @@ mod receipts;
 mod search;
 
 pub use receipts::receipt;
-pub use search::{Sought, seek, seek_row};
+pub use search::seek;

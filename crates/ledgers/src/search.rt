@@ -5,15 +5,15 @@ ghost use Rattle.refusals.specs.Refused.{answer_of};
 ghost use Rattle.rows.specs.Search.{find};
 ghost use Rattle.rules.specs.Outcomes.{Lent};
 ghost use Rattle.rules.specs.Rows.{row_number};
-ghost use Rattle.ledgers.specs.Tests.{found, place_if};
+ghost use Rattle.ledgers.specs.Tests.{found};
 
-use record::{ACTIVE, check_ready, unready};
+use record::{ACTIVE, check_ready};
 use refusals::Refusal;
 use rules::Head;
 
 // The number of the row of a ledger that has to be there, or what refuses the call first.
 #[tactic(auto, using(crate::proofs::Actives::unready_first, crate::proofs::Actives::ready_first), unfolding(refusals::specs::Order::first))]
-pub fn seek_row(
+pub fn seek(
     head: Head,
     table: &[u8],
     label: [u8; 16],
@@ -25,37 +25,4 @@ pub fn seek_row(
 {
     check_ready(head, table, area, size, ACTIVE, Refusal::NotActive)?;
     rows::find(table, head.count as usize, label).map_err(|_| Refusal::NoSuchLedger)
-}
-
-// TRANSITION: goes when reading, making and appending have left it for `seek_row`.
-// What a call finds out first: the first refusal and 0, or 0 and the number of the ledger's row, or of the row that it gets.
-#[derive(Clone, Copy)]
-pub struct Sought {
-    pub number: u32,
-    pub place: usize,
-}
-
-// TRANSITION: goes when reading and appending have left it for `seek_row`.
-// What a call on a ledger that has to be there asks first.
-pub fn seek(head: Head, table: &[u8], label: [u8; 16], area: &[u8], size: usize) -> Sought
-    ensures number { result.number ≡ first (found size (record { head = head; table = table.now; area = area.now }) label) }
-    ensures place { result.place ≡ place_if result.number (find head.count table.now label) }
-{
-    let n = unready(head, table, area, size, ACTIVE, refusals::NOT_ACTIVE);
-    if n != refusals::ACCEPTED {
-        return Sought {
-            number: n,
-            place: 0,
-        };
-    }
-    let Ok(i) = rows::find(table, head.count as usize, label) else {
-        return Sought {
-            number: refusals::NO_SUCH_LEDGER,
-            place: 0,
-        };
-    };
-    Sought {
-        number: refusals::ACCEPTED,
-        place: i,
-    }
 }

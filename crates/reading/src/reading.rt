@@ -10,7 +10,7 @@ ghost use Rattle.rules.specs.Rows.{receipt_of, row_number};
 ghost use Rattle.rules.specs.Read.{read_kind, reading, appending_and_reading};
 
 use appending::{check_append, enter};
-use ledgers::{receipt, seek_row};
+use ledgers::{receipt, seek};
 use octets::number_at;
 use record::give;
 use refusals::Refusal;
@@ -51,7 +51,7 @@ pub fn read(
 ) -> Result<Done, Refusal>
     ensures { outcome (told head result) table.now area.new ≡ reading (record { head = head; table = table.now; area = area.old }) label nonce }
 {
-    let i = seek_row(head, table, label, area, READING_SIZE)?;
+    let i = seek(head, table, label, area, READING_SIZE)?;
     show(
         head,
         label,
