@@ -10,7 +10,7 @@ ghost use Rattle.roll.specs.Places.{Spread};
 
 use crate::block::PLACES;
 use crate::place::{blocks_in, count_in, height_in, label_in, row_at, tail_in};
-use rows::ROW;
+use rows::{ROW, is_label_before};
 
 // Whether row i keeps the rules of a row.
 fn row_fits(s: &[u8], i: usize) -> bool
@@ -25,20 +25,15 @@ fn rises(s: &[u8], i: usize) -> bool
     requires { Spread s.now × (i < places * blocks (said_count s.now)) }
     ensures { result ≡ rises (roll_layout.cut s.now).rows i }
 {
-    if i == 0 {
-        return true;
-    }
-    octets::is_before(&label_in(s, i - 1), &label_in(s, i))
+    i == 0 || is_label_before(s, row_at(i - 1), s, row_at(i))
 }
 
+#[tactic(auto, unfolding(rows::specs::Table::stands))]
 fn stands(s: &[u8], i: usize) -> bool
     requires { Spread s.now × (i < places * blocks (said_count s.now)) }
     ensures { result ≡ stands (roll_layout.cut s.now).rows i }
 {
-    if row_fits(s, i) {
-        return rises(s, i);
-    }
-    false
+    row_fits(s, i) && rises(s, i)
 }
 
 fn all_stand(s: &[u8]) -> bool
@@ -71,8 +66,5 @@ pub fn rows_stand(s: &[u8]) -> bool
     requires { Spread s.now }
     ensures { result ≡ rows_fit (roll_layout.cut s.now).count (roll_layout.cut s.now).rows }
 {
-    if all_stand(s) {
-        return rest_is_unused(s);
-    }
-    false
+    all_stand(s) && rest_is_unused(s)
 }

@@ -20,10 +20,7 @@ fn is_whole(block: &[u8], count: u8, b: usize) -> bool
     requires { (length block.now ≡ block_bytes) × (count ≤ most_rows) × (b < blocks count) }
     ensures { result ≡ (same (head count b) (take head_bytes block.now) && same (check (take checked_bytes block.now)) (drop checked_bytes block.now)) }
 {
-    if is_same(&head_of(count, b), &block[..HEAD]) {
-        return is_same(&check_of(&block[..CHECKED]), &block[CHECKED..]);
-    }
-    false
+    is_same(&head_of(count, b), &block[..HEAD]) && checks::is_checked(block)
 }
 
 // Whether block b of the roll that stands in a string is what stands at its place.
@@ -57,8 +54,5 @@ pub fn is_roll(s: &[u8]) -> bool
     if s.len() != BLOCK * blocks(count) {
         return false;
     }
-    if !rows_stand(s) {
-        return false;
-    }
-    are_blocks(s)
+    rows_stand(s) && are_blocks(s)
 }

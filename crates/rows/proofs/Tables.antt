@@ -7,7 +7,7 @@ use native.Mathlib.Decide.{dec_lt}
 use native.Mathlib.Nat.{add-zero, not-suc-le-zero}
 use native.Mathlib.Numerals.{add-one}
 use native.Mathlib.Omega.{arith}
-use borrow.Author.Tests.{eq-eqb, ne_eqb, le-leb, lt-leb, eqb-true, leb-true}
+use borrow.Author.Tests.{eq-eqb, le-leb, eqb-true, leb-true}
 use lib.ListN.{length, take, drop, length-drop}
 use lib.Seq.{take_all}
 use lib.Dec.{eqb, leb}
@@ -63,15 +63,7 @@ rises_after rows zero n = absurd (n refl)
 rises_after rows (suc i) n = let e : suc i - 1 ≡ i = omega arith in rw e
 
 module _ (count : ℕ) (rows : List ℕ) where
-  pub no_table : (length rows ≡ table_bytes → ⊥) → rows_fit count rows ≡ false
-  unfolding rows_fit
-  no_table n = rw (ne_eqb (length rows) table_bytes n)
-
   module _ (table : length rows ≡ table_bytes) where
-    pub too_many : most_rows < count → rows_fit count rows ≡ false
-    unfolding rows_fit
-    too_many h = rw (eq-eqb (length rows) table_bytes table, lt-leb count most_rows h)
-
     module _ (few : count ≤ most_rows) where
       pub one_does_not_stand : each (stands rows) count ≡ false → rows_fit count rows ≡ false
       unfolding rows_fit

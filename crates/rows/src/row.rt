@@ -11,23 +11,15 @@ use octets::is_zero;
 pub fn tail_holds(tail: &[u8], height: u64) -> bool
     ensures { result ≡ (leb height top_height && cond (eqb height 0) (all_zero tail.now) true) }
 {
-    if TOP < height {
-        return false;
-    }
-    if height == 0 {
-        return is_zero(tail);
-    }
-    true
+    height <= TOP && (height != 0 || is_zero(tail))
 }
 
 // Whether a label, a tail and a height make a row: the label is not all zero, and the others go with it.
+#[tactic(auto, unfolding(crate::specs::Row::row_holds))]
 pub fn row_holds(label: &[u8], tail: &[u8], height: u64) -> bool
     ensures { result ≡ row_holds label.now tail.now height }
 {
-    if is_zero(label) {
-        return false;
-    }
-    tail_holds(tail, height)
+    !is_zero(label) && tail_holds(tail, height)
 }
 
 // Whether a height is the one after another.

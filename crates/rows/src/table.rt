@@ -39,10 +39,7 @@ fn rises(rows: &[u8], i: usize) -> bool
     requires { row_bytes * i + row_bytes ≤ length rows.now }
     ensures { result ≡ rises rows.now i }
 {
-    if i == 0 {
-        return true;
-    }
-    is_label_before(rows, ROW * (i - 1), rows, ROW * i)
+    i == 0 || is_label_before(rows, ROW * (i - 1), rows, ROW * i)
 }
 
 // Whether row i may stand where it stands. A label that comes after another is not all zero.
@@ -53,10 +50,7 @@ fn stands(rows: &[u8], i: usize) -> bool
     if i == 0 {
         return row_fits(rows, i);
     }
-    if rises(rows, i) {
-        return labelled_fits(rows, i);
-    }
-    false
+    rises(rows, i) && labelled_fits(rows, i)
 }
 
 fn all_stand(rows: &[u8], count: usize) -> bool
@@ -67,18 +61,12 @@ fn all_stand(rows: &[u8], count: usize) -> bool
 }
 
 // Whether a string is a table whose first rows, `count` of them, form a roll, with zeros after them.
+#[tactic(auto, using(crate::proofs::Tables::rest_part), unfolding(crate::specs::Table::rows_fit))]
 pub fn rows_fit(rows: &[u8], count: usize) -> bool
     ensures { result ≡ rows_fit count rows.now }
 {
-    if rows.len() != TABLE {
-        return false;
-    }
-    if MOST < count {
-        return false;
-    }
-    if all_stand(rows, count) {
-        let rest = ROW * count;
-        return octets::is_zero(&rows[rest..]);
-    }
-    false
+    rows.len() == TABLE
+        && count <= MOST
+        && all_stand(rows, count)
+        && octets::is_zero(&rows[ROW * count..])
 }

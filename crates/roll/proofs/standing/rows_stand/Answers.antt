@@ -13,9 +13,9 @@ returns-then-all_stand c =
     c.rest_is_unused.ensures
     ∙ sym (all_do_stand (said_count s) (cut_table s) (table_long s start.requires) start.requires.few (sym c.all_stand.ensures ∙ c.if-all_stand.true))
 
-pub returns : goal.returns
+pub returns-else-all_stand : goal.returns-else-all_stand
 unfolding roll_layout
-returns c =
+returns-else-all_stand c =
     let start = c in
     let s = start.args.s.now in
-    sym (one_does_not_stand (said_count s) (cut_table s) (table_long s start.requires) start.requires.few (sym c.all_stand.ensures ∙ c.if-all_stand.false))
+    c.if-all_stand.false ∙ sym (one_does_not_stand (said_count s) (cut_table s) (table_long s start.requires) start.requires.few (sym c.all_stand.ensures ∙ c.if-all_stand.false))

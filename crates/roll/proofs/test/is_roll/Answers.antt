@@ -40,15 +40,15 @@ returns-then-s-blocks c =
 pub rows_stand-requires : goal.rows_stand-requires
 rows_stand-requires c = spread c
 
-pub returns-then-not-rows_stand : goal.returns-then-not-rows_stand
+pub returns-else-rows_stand : goal.returns-else-rows_stand
 unfolding roll_layout
-returns-then-not-rows_stand c = sym (no_fit c.args.s.now (sym c.rows_stand.ensures ∙ c.if-not-rows_stand.true))
+returns-else-rows_stand c = c.if-rows_stand.false ∙ sym (no_fit c.args.s.now (sym c.rows_stand.ensures ∙ c.if-rows_stand.false))
 
 pub are_blocks-requires : goal.are_blocks-requires
 are_blocks-requires c = spread (goal.at.are_blocks-requires c).Else-s-blocks
 
-pub returns : goal.returns
+pub returns-then-rows_stand : goal.returns-then-rows_stand
 unfolding roll_layout
-returns c =
+returns-then-rows_stand c =
     c.are_blocks.ensures
-    ∙ sym (blocks_decide c.args.s.now (sym c.rows_stand.ensures ∙ c.if-not-rows_stand.false))
+    ∙ sym (blocks_decide c.args.s.now (sym c.rows_stand.ensures ∙ c.if-rows_stand.true))

@@ -8,8 +8,8 @@ pub returns-then-i-eq0 : goal.returns-then-i-eq0
 unfolding rises
 returns-then-i-eq0 c = rw c.if-i-eq0.true
 
-pub returns : goal.returns
+pub returns-else-i-eq0 : goal.returns-else-i-eq0
 unfolding label_of
-returns c =
+returns-else-i-eq0 c =
     let a = c.args in
     c.is_label_before.ensures ∙ rises_after a.rows.now a.i c.if-i-eq0.false

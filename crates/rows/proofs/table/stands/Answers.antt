@@ -26,8 +26,8 @@ returns-then-rises c =
     let rise = sym c.rises.ensures ∙ c.if-rises.true in
     c.labelled_fits.ensures ∙ sym (and-true (row_fits rows a.i)) ∙ ap (λ (b : Bool). row_fits rows a.i && b) (sym rise)
 
-pub returns : goal.returns
+pub returns-else-rises : goal.returns-else-rises
 unfolding stands
-returns c =
+returns-else-rises c =
     let a = c.args in
-    sym (and_false (row_fits a.rows.now a.i) (sym c.rises.ensures ∙ c.if-rises.false))
+    c.if-rises.false ∙ sym (and_false (row_fits a.rows.now a.i) (sym c.rises.ensures ∙ c.if-rises.false))
