@@ -4,7 +4,7 @@ ghost use Rattle.refusals.specs.Refused.{answer_of};
 ghost use Rattle.octets.specs.Layouts.{holds};
 ghost use Rattle.rack.specs.Racks.{rack_layout, rack_digest};
 ghost use Rattle.desk.specs.Verdict.{signers_fit, height_in, verdict_refusal, judging};
-ghost use Rattle.desk.specs.Asked.{asked_with};
+ghost use Rattle.desk.specs.Asked.{asked_with, finding_of};
 
 use crate::asking::{has_other_nonce, is_asked_for};
 use crate::{Finding, Question};
@@ -63,6 +63,44 @@ pub fn height_in(kind: Kind) -> u64
     }
 }
 
+impl From<Result<Statement, Refusal>> for Finding {
+    ghost from_gives = { λ outcome finding. finding ≡ finding_of outcome };
+
+    #[tactic(auto, unfolding(crate::specs::Verdict::nothing_shown))]
+    fn from(outcome: Result<Statement, Refusal>) -> Finding {
+        match outcome {
+            Ok(statement) => {
+                let Statement { kind, tail, .. } = statement;
+                Finding {
+                    number: refusals::ACCEPTED,
+                    tail,
+                    height: height_in(kind),
+                }
+            }
+            Err(refusal) => Finding {
+                number: refusal.number(),
+                tail: [0; DIGEST],
+                height: 0,
+            },
+        }
+    }
+}
+
+// The statement that a rack's signers vouch for; the rack's digest was taken before.
+fn vouched(
+    question: Question,
+    rack: &[u8],
+    digest: [u8; DIGEST],
+    s: &[u8],
+    signers: &[u8],
+) -> Result<Statement, Refusal>
+    requires { holds rack_layout rack.now ≡ true → digest ≡ rack_digest rack.now }
+    ensures { finding_of result ≡ judging (asked_with question rack.now) s.now signers.now }
+{
+    check_verdict(question, rack, digest, s, signers)?;
+    read_statement(s)
+}
+
 // The verdict by a rack whose digest was taken before.
 pub fn verdict_with(
     question: Question,
@@ -74,19 +112,7 @@ pub fn verdict_with(
     requires { holds rack_layout rack.now ≡ true → digest ≡ rack_digest rack.now }
     ensures { result ≡ judging (asked_with question rack.now) s.now signers.now }
 {
-    if let Err(refusal) = check_verdict(question, rack, digest, s, signers) {
-        return Finding::from(refusal);
-    }
-    let statement = match read_statement(s) {
-        Ok(statement) => statement,
-        Err(refusal) => return Finding::from(refusal),
-    };
-    let Statement { kind, tail, .. } = statement;
-    Finding {
-        number: refusals::ACCEPTED,
-        tail,
-        height: height_in(kind),
-    }
+    Finding::from(vouched(question, rack, digest, s, signers))
 }
 
 // Tail and height of the ledger, as a majority of the rack's keys signed them.

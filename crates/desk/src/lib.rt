@@ -4,12 +4,7 @@
 mod asking;
 mod judging;
 
-ghost use Rattle.std.specs.Prelude.{◌≡◌};
-ghost use Rattle.refusals.specs.Refused.{refusal_number};
-ghost use Rattle.desk.specs.Verdict.{nothing_shown};
-
 pub use judging::{height_in, verdict, verdict_with};
-use refusals::Refusal;
 use statement::{DIGEST, LABEL, NUMBER};
 
 // The bytes of a nonce: two numbers.
@@ -32,17 +27,4 @@ pub struct Finding {
     pub number: u32,
     pub tail: [u8; DIGEST],
     pub height: u64,
-}
-
-impl From<Refusal> for Finding {
-    ghost from_gives = { λ refusal finding. finding ≡ nothing_shown (refusal_number refusal) };
-
-    #[tactic(auto, unfolding(crate::specs::Verdict::nothing_shown))]
-    fn from(refusal: Refusal) -> Finding {
-        Finding {
-            number: refusal.number(),
-            tail: [0u8; DIGEST],
-            height: 0,
-        }
-    }
 }
