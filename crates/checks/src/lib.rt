@@ -3,7 +3,6 @@
 
 ghost use Rattle.std.specs.Prelude.{◌≡◌, ◌≤◌, length};
 ghost use Rattle.hash.specs.Promise.{longest};
-ghost use Rattle.hash.specs.Sha256.{sha256};
 ghost use Rattle.checks.specs.Check.{block_bytes, check, check_right};
 
 use octets::{array_at, is_same};
@@ -17,14 +16,6 @@ pub const CHECKED: usize = BLOCK - CHECK;
 
 // The bytes of a digest.
 pub const DIGEST: usize = 32;
-
-// TRANSITION: goes when cabinet and store have left it for `hash::digest`.
-pub fn digest_of(s: &[u8]) -> [u8; DIGEST]
-    requires { length s.now ≤ longest }
-    ensures { result ≡ sha256 s.now }
-{
-    hash::digest(s)
-}
 
 // The check of a string.
 pub fn check_of(s: &[u8]) -> [u8; CHECK]

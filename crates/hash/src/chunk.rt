@@ -21,6 +21,7 @@ fn fill(w: &mut [u32; 16], chunk: &[u8])
     }
 }
 
+#[tactic(auto, unfolding(crate::specs::Rounds::initial))]
 fn working(h: [u32; 8]) -> Working
     ensures { eight result ≡ initial h }
 {
@@ -36,6 +37,7 @@ fn working(h: [u32; 8]) -> Working
     }
 }
 
+#[tactic(auto, unfolding(crate::specs::Words::plus, crate::specs::Rounds::summed, crate::specs::Sha256::sha_256))]
 fn sums(h: [u32; 8], s: Working) -> [u32; 8]
     ensures { result ≡ summed sha_256 h (eight s) }
 {

@@ -35,6 +35,7 @@ fn second_sum(s: Working) -> u32
 }
 
 // One round, with a constant and a word of the schedule.
+#[tactic(auto, unfolding(crate::specs::Words::plus, crate::specs::Rounds::shifted, crate::specs::Rounds::round, crate::specs::Sha256::sha_256))]
 pub fn one_round(s: Working, k: u32, w: u32) -> Working
     ensures { eight result ≡ round sha_256 (eight s) k w }
 {

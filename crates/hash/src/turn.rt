@@ -15,6 +15,7 @@ fn round_at(s: Working, w: &[u32; 16], k: &[u32; 64], t: usize) -> Working
 }
 
 // Word t + 16 of the schedule, from the sixteen before it.
+#[tactic(auto, unfolding(crate::specs::Words::plus, crate::specs::Turns::word_after, crate::specs::Sha256::sha_256))]
 fn word_after(w: &[u32; 16], t: usize) -> u32
     requires { t < 48 }
     ensures { result ≡ word_after sha_256 w.now t }

@@ -5,6 +5,7 @@ ghost use Rattle.hash.specs.Words.{rotr};
 ghost use Rattle.hash.specs.Functions.{Ch, Maj, upper_sigma, lower_sigma};
 
 // The rotation of x to the right by n, which stays written by shift and or: docs/FORMS.md names it as a form of its own.
+#[tactic(auto, unfolding(crate::specs::Words::shl, crate::specs::Words::shr, crate::specs::Words::rotr))]
 fn rotate(x: u32, n: u32) -> u32
     requires { (0 < n) × (n < 32) }
     ensures { result ≡ rotr 32 n x }
@@ -12,12 +13,14 @@ fn rotate(x: u32, n: u32) -> u32
     (x >> n) | (x << (32 - n))
 }
 
+#[tactic(auto, using(crate::proofs::Mixing::Ch_by))]
 pub fn ch(x: u32, y: u32, z: u32) -> u32
     ensures { result ≡ Ch 32 x y z }
 {
     z ^ (x & (y ^ z))
 }
 
+#[tactic(auto, using(crate::proofs::Mixing::Maj_by))]
 pub fn maj(x: u32, y: u32, z: u32) -> u32
     ensures { result ≡ Maj x y z }
 {

@@ -14,6 +14,7 @@ pub fn is_zero(s: &[u8]) -> bool
 }
 
 // Whether two strings are the same.
+#[tactic(auto, using(crate::proofs::Compared::same_pointwise))]
 pub fn is_same(a: &[u8], b: &[u8]) -> bool
     ensures { result ≡ same a.now b.now }
 {
@@ -21,6 +22,7 @@ pub fn is_same(a: &[u8], b: &[u8]) -> bool
 }
 
 // Whether the first string comes before the second in byte order. `cmp` takes many bytes at a time where `<` takes one.
+#[tactic(auto, using(crate::proofs::Compared::before_cmp))]
 pub fn is_before(a: &[u8], b: &[u8]) -> bool
     ensures { result ≡ before a.now b.now }
 {
