@@ -41,12 +41,6 @@ pub set-put : (d : List ℕ) (i x : ℕ) → i < length d → set d i x ≡ put 
 unfolding put
 set-put d i x h = rw (add-one i) (set_split d i x h ∙ sym (append_assoc (take i d) (x ∷ []) (drop (suc i) d)))
 
--- a part of a string over all of another; it goes when night has left it
-pub put_part : (d s : List ℕ) (at n k : ℕ) → k ≡ n → at + n ≤ length s → length d ≡ n → put d 0 (take k (drop at s)) ≡ take n (drop at s)
-put_part d s at n k e h l =
-    ap (λ (i : ℕ). put d 0 (take i (drop at s))) e
-    ∙ put_all d (take n (drop at s)) (length-take-le n (drop at s) (omega (arith, length-drop at s)) ∙ sym l)
-
 -- three strings put one behind the other
 pub three_puts :
     (d : List ℕ) (at : ℕ) (a b c : List ℕ) → at + length a + length b + length c ≤ length d

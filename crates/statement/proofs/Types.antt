@@ -1,4 +1,4 @@
--- What owning a statement tells of its fields: the arrays have their lengths, the numbers 64 bits. Assumes nothing.
+-- What owning a statement tells of its fields: the arrays have their lengths, the numbers 64 bits; and so it has its kind's length. Assumes nothing.
 use mathlib.Core.List.{List}
 use denote.Laws.{Is}
 use denote.Struct.Declared.{row}
@@ -6,6 +6,7 @@ use Rattle.statement.specs.declared.Kind.{Kind}
 use Rattle.statement.specs.declared.Kind.TheVariants.{Blank, New, Append, Read, Finalise, Initialise}
 use Rattle.statement.specs.declared.Statement.{Statement}
 use Rattle.statement.specs.Shape.{Arrays, Numbers, Shaped}
+use Rattle.statement.proofs.Records.{fits_kind, written_length}
 use mir.Val.{Val}
 use denote.Enum.Declared as Enum
 use Rattle.statement.specs.contracts.Kind as K
@@ -33,3 +34,6 @@ arrays v vs g =
 
 pub shaped : (v : Statement) (vs : List Val) → Is (row T.the_type) v vs → Shaped v
 shaped v vs g = record { arrays = arrays v vs g; numbers = numbers v.kind _ g.1.1.0 }
+
+-- how many bytes a statement that fits is written as
+pub ruleset lengths = (arrays, fits_kind, written_length)

@@ -55,6 +55,7 @@ pub struct Statement {
 }
 
 // Takes a statement apart.
+#[tactic(auto, using(crate::proofs::Held::holds_is), unfolding(crate::specs::Layout::reading))]
 pub fn read_statement(s: &[u8]) -> Result<Statement, Refusal>
     ensures { record { answer = answer_of result; statement = result_unwrap_or result blank_statement } ≡ reading s.now }
 {
@@ -67,6 +68,7 @@ pub fn read_statement(s: &[u8]) -> Result<Statement, Refusal>
 }
 
 // Writes a statement as the first bytes of an area.
+#[tactic(auto, using(crate::proofs::Types::lengths), unfolding(octets::specs::Layouts::writing, octets::specs::Layouts::unwritten))]
 pub fn write_statement(v: Statement, area: &mut [u8]) -> Result<usize, Refusal>
     ensures { record { answer = answer_of result; count = result_unwrap_or result 0; area = area.new }
         ≡ writing statement_layout statement_not_asked v area.old }

@@ -9,6 +9,7 @@ use crate::{Kind, Statement};
 use octets::{copy_at, put_number};
 
 // Three fields after the identity.
+#[tactic(auto, using(crate::proofs::Fields::three_puts))]
 fn put_three(area: &mut [u8], a: &[u8], b: &[u8], c: &[u8])
     requires { first_place + length a.now + length b.now + length c.now ≤ length area.old }
     ensures { area.new ≡ put area.old first_place (a.now ++ b.now ++ c.now) }
@@ -20,6 +21,7 @@ fn put_three(area: &mut [u8], a: &[u8], b: &[u8], c: &[u8])
 
 impl Statement {
     // What follows the identity of a new or append statement, and begins a read one.
+    #[tactic(auto, using(crate::proofs::Types::arrays, crate::proofs::Puts::receipt_end, crate::proofs::Puts::receipt_puts))]
     fn put_receipt(self, height: u64, area: &mut [u8])
         requires { first_place + length (receipt self height) ≤ length area.old }
         ensures { area.new ≡ put area.old first_place (receipt self height) }
@@ -29,6 +31,7 @@ impl Statement {
     }
 
     // What follows the identity of a read statement.
+    #[tactic(auto, using(crate::proofs::Types::arrays, crate::proofs::Puts::receipt_end, crate::proofs::Puts::read_end, crate::proofs::Puts::read_puts))]
     fn put_read(self, height: u64, high: u64, low: u64, area: &mut [u8])
         requires { first_place + length (body self (Kind.Read height high low)) ≤ length area.old }
         ensures { area.new ≡ put area.old first_place (body self (Kind.Read height high low)) }
@@ -39,6 +42,7 @@ impl Statement {
     }
 
     // What follows the identity, by the kind.
+    #[tactic(auto, using(crate::proofs::Fields::three_lengths, octets::proofs::Fronts::put_none), unfolding(crate::specs::Contents::body))]
     fn put_body(self, area: &mut [u8])
         requires { first_place + length (body self self.kind) ≤ length area.old }
         ensures { area.new ≡ put area.old first_place (body self self.kind) }
@@ -58,6 +62,7 @@ impl Statement {
     }
 
     // The kind's number, the identity, and what follows them.
+    #[tactic(auto, using(crate::proofs::Types::arrays, crate::proofs::Puts::statement_puts), unfolding(crate::specs::Contents::statement_written))]
     pub fn put(self, area: &mut [u8])
         requires { length (statement_written self) ≤ length area.old }
         ensures { area.new ≡ put area.old 0 (statement_written self) }
