@@ -3,7 +3,7 @@ ghost use Rattle.std.specs.Prelude.{◌≡◌};
 ghost use Rattle.refusals.specs.Refused.{answer_of};
 ghost use Rattle.refusals.specs.Order.{first};
 ghost use Rattle.store.specs.Append.{ready_tests, order_tests, shown, appending};
-ghost use Rattle.store.specs.Answers.{height_of};
+ghost use Rattle.store.specs.Answers.{height_of, appended_told};
 
 use crate::scan::{first_unused, has_damaged, is_area, newest};
 use crate::{Answer, Place};
@@ -51,7 +51,7 @@ fn check_order(expected: u64, height: u64) -> Result<(), Refusal>
 
 // Appends a text at the height that the label has next.
 fn append(area: &mut [u8], asked: Place, text: &[u8]) -> Result<(), Refusal>
-    ensures { record { number = answer_of result; written = 0; height = height_of result; area = area.new } ≡ appending area.old asked.label asked.height text.now }
+    ensures { appended_told result area.new ≡ appending area.old asked.label asked.height text.now }
 {
     check_ready(area, &asked.label, text)?;
     let n = area.len() / BLOCK;

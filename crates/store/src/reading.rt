@@ -1,8 +1,6 @@
 // The read.
 ghost use Rattle.std.specs.Prelude.{◌≡◌};
-ghost use Rattle.std.specs.Result.{result_unwrap_or};
-ghost use Rattle.refusals.specs.Refused.{answer_of};
-ghost use Rattle.store.specs.Answers.{height_of};
+ghost use Rattle.store.specs.Answers.{copied_told};
 ghost use Rattle.store.specs.Read.{reading};
 
 use crate::scan::{first_answer, has_damaged, is_area};
@@ -14,7 +12,7 @@ use refusals::Refusal;
 
 // Copies out the block of a label and a height; gives how many bytes.
 fn read(area: &[u8], asked: Place, output: &mut [u8]) -> Result<usize, Refusal>
-    ensures { record { number = answer_of result; written = result_unwrap_or result 0; height = height_of result; output = output.new } ≡ reading area.now asked.label asked.height output.old }
+    ensures { copied_told result output.new ≡ reading area.now asked.label asked.height output.old }
 {
     if output.len() < BLOCK {
         return Err(Refusal::AreaTooShort);
