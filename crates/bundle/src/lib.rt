@@ -5,12 +5,14 @@ mod fitting;
 mod lists;
 mod marked;
 mod parts;
+mod rolls;
 mod walks;
 
 pub use fitting::is_bundle;
 pub use lists::EntryList;
 pub use marked::{check_new_marks, check_old_marks};
 pub use parts::{digests, new_entries, old_roll};
+pub use rolls::OldRolls;
 pub use walks::{
     added_at, first_list, list_at, new_at, new_count, next_list, next_old, old_at, old_count,
     old_end,
