@@ -3,3 +3,4 @@ pub mod Places
 pub mod Deciding
 pub mod Listed
 pub mod Examples
+pub mod RollsLeft

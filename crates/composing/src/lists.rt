@@ -13,8 +13,8 @@ ghost use Rattle.composing.specs.Written.{Fed, AllFed, lists_by, lists_of};
 ghost use Rattle.gathering.specs.Old.{Given};
 
 use crate::sizes::need;
-use bundle::{LIST_HEAD, next_old, old_count};
-use gathering::{old_row, roll_at};
+use bundle::{LIST_HEAD, OldRolls};
+use gathering::old_row;
 use listing::digest_for;
 use octets::copy_at;
 use rows::{DIGEST, LABEL, label_at};
@@ -78,9 +78,7 @@ pub fn put_bundle(e: &[u8], store: &[u8], table: &[u8], count: usize, area: &mut
 {
     copy_at(area, 0, e);
     let mut place = e.len();
-    let mut at = 1;
-    for _ in 0..old_count(e) {
-        place = put_lists(roll_at(e, at), store, table, count, area, place);
-        at = next_old(e, at);
+    for roll in OldRolls::of(e) {
+        place = put_lists(roll, store, table, count, area, place);
     }
 }

@@ -8,8 +8,8 @@ ghost use Rattle.rules.specs.Bundle.{old_count};
 ghost use Rattle.gathering.specs.Old.{Given};
 ghost use Rattle.composing.specs.Sizes.{roll_size, whole_size};
 
-use bundle::{LIST_HEAD, LONGEST, MOST_ADDED, next_old, old_count};
-use gathering::{old_row, roll_at};
+use bundle::{LIST_HEAD, LONGEST, MOST_ADDED, OldRolls};
+use gathering::old_row;
 use rows::{DIGEST, height_at, label_at};
 
 // How many entries row r of the table lies above an old height of its label.
@@ -43,10 +43,8 @@ pub fn whole_size(e: &[u8], table: &[u8], count: usize) -> usize
     ensures { result ≡ whole_size e.now table.now count (old_count e.now) }
 {
     let mut size = e.len();
-    let mut at = 1;
-    for _ in 0..old_count(e) {
-        size += roll_size(roll_at(e, at), table, count);
-        at = next_old(e, at);
+    for roll in OldRolls::of(e) {
+        size += roll_size(roll, table, count);
     }
     size
 }

@@ -4,7 +4,7 @@ ghost use Rattle.rows.specs.Table.{each};
 ghost use Rattle.rules.specs.Bundle.{longest_bundle, old_count, new_at};
 ghost use Rattle.entries.specs.Asked.{roll_held};
 
-use bundle::{old_count, old_roll};
+use bundle::OldRolls;
 use roll::is_roll;
 
 // Whether each old entry has a roll.
@@ -12,10 +12,5 @@ pub fn rolls_hold(s: &[u8]) -> bool
     requires { (new_at s.now < length s.now) × (length s.now ≤ longest_bundle) }
     ensures { result ≡ each (roll_held s.now) (old_count s.now) }
 {
-    for i in 0..old_count(s) {
-        if !is_roll(old_roll(s, i)) {
-            return false;
-        }
-    }
-    true
+    OldRolls::of(s).all(|roll| is_roll(roll))
 }

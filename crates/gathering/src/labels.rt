@@ -9,8 +9,7 @@ ghost use Rattle.rules.specs.Bundle.{old_count};
 ghost use Rattle.maker.specs.Rolls.{nearest, nearest_in, next_of};
 ghost use Rattle.gathering.specs.Old.{Given, up_to};
 
-use crate::old::roll_at;
-use bundle::{next_old, old_count};
+use bundle::OldRolls;
 use octets::{is_before, is_zero};
 use roll::{count_in, label_in};
 use rows::LABEL;
@@ -86,11 +85,9 @@ pub fn next_label(e: &[u8], last: [u8; LABEL], guess: usize) -> [u8; LABEL]
     ensures { result ≡ next_of e.now last (old_count e.now) }
 {
     let mut found = [0u8; LABEL];
-    let mut at = 1;
-    for _ in 0..old_count(e) {
-        let next = nearest_in(roll_at(e, at), last, found, guess);
+    for roll in OldRolls::of(e) {
+        let next = nearest_in(roll, last, found, guess);
         found = next;
-        at = next_old(e, at);
     }
     found
 }

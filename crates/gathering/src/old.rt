@@ -8,7 +8,7 @@ ghost use Rattle.maker.specs.Rolls as rule;
 ghost use Rattle.gathering.specs.Old.{Given, row_of};
 
 use crate::search::find_in;
-use bundle::{OLD_HEAD, next_old, old_count};
+use bundle::{OLD_HEAD, OldRolls, next_old};
 use maker::Highest;
 use roll::{height_in, tail_in};
 use rows::{LABEL, TAIL};
@@ -53,10 +53,8 @@ pub fn highest(e: &[u8], label: [u8; LABEL]) -> Highest
     ensures { result ≡ rule.highest e.now label }
 {
     let mut best = NONE;
-    let mut at = 1;
-    for _ in 0..old_count(e) {
-        best = higher(best, old_row(roll_at(e, at), label));
-        at = next_old(e, at);
+    for roll in OldRolls::of(e) {
+        best = higher(best, old_row(roll, label));
     }
     best
 }

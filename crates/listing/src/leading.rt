@@ -9,7 +9,7 @@ ghost use Rattle.gathering.specs.Old.{Given};
 
 use crate::answers::leads_on;
 use crate::early::is_early;
-use bundle::{next_old, old_count};
+use bundle::{OldRolls, next_old, old_count};
 use gathering::{highest, old_row, roll_at};
 use maker::Highest;
 use roll::{count_in, label_in};
@@ -20,12 +20,10 @@ fn led_to(e: &[u8], store: &[u8], label: [u8; LABEL], top: Highest) -> bool
     requires { Given e.now × (area_right store.now ≡ true) × (top ≡ rolls.highest e.now label) }
     ensures { result ≡ rule.led e.now store.now label }
 {
-    let mut at = 1;
-    for _ in 0..old_count(e) {
-        if !leads_on(store, label, old_row(roll_at(e, at), label), top) {
+    for roll in OldRolls::of(e) {
+        if !leads_on(store, label, old_row(roll, label), top) {
             return false;
         }
-        at = next_old(e, at);
     }
     true
 }

@@ -1,72 +1,61 @@
-use mathlib.Core.Path.{◌≡◌, refl, ap, ◌∙◌}
+use mathlib.Core.Path.{refl, sym, ap, ◌∙◌}
 use mathlib.Core.List.{List}
-use Prim.Native.Nat.{ℕ, ◌<◌}
+use Prim.Native.Nat.{ℕ}
 use native.Mathlib.Omega.{arith}
-use Rattle.rules.specs.Bundle.{old_count, old_at}
-use Rattle.bundle.proofs.Places.{old_step}
-use Rattle.gathering.proofs.Walks.{some_byte, entry_lies, head_lies, roll_holds, roll_cut}
+use lib.ListN.{length}
+use Rattle.std.proofs.lemmas.List.{length_push}
+use Rattle.bundle.specs.Rolls.{rolls_left}
+use Rattle.bundle.proofs.RollsLeft.{Given_next, start, given, ended}
+use Rattle.gathering.proofs.Walks.{roll_holds}
 use Rattle.composing.specs.Sizes.{roll_size, whole_size}
 use Rattle.composing.proofs.Lengths.{whole_next}
 use Rattle.composing.proofs.sizes.whole_size.Goals as goal
-use Rattle.composing.proofs.sizes.whole_size.Goals.{In-loop}
+use Rattle.composing.proofs.sizes.whole_size.Goals.{In-Some}
 
-pub old_count-end-requires : goal.old_count-end-requires
-old_count-end-requires c = some_byte c.requires.0
+pub of-roll-items-requires : goal.of-roll-items-requires
+of-roll-items-requires c = (omega (arith, c.requires.0.within), c.requires.0.short)
 
-pub loop-init : goal.loop-init
-unfolding old_at whole_size
-loop-init c = (refl, refl, omega (arith, c.requires.0.short))
+pub loop-roll-init : goal.loop-roll-init
+unfolding whole_size
+loop-roll-init c =
+    let e = c.args.e.now in
+    record {
+      given = omega arith;
+      left = ap rolls_left c.into_iter-roll-iterator.ensures.into_iter_gives ∙ c.of-roll-items.ensures ∙ start e;
+      size = refl;
+      bound = omega (arith, c.requires.0.short);
+    }
 
-below : (c : In-loop) → c.loop.counter < old_count c.args.e.now
-below c = omega (arith, c.old_count-end.ensures)
-
-pub roll_at-requires : goal.roll_at-requires
-roll_at-requires c = (
-  entry_lies c.requires.0 c.loop.counter c.loop.at c.loop.invariant.0 (below c),
-  c.requires.0.short,
-)
+turn : (c : In-Some) → Given_next c.args.e.now (length c.loop-roll.yielded) c.in-Some.roll.now (rolls_left c.next.new.self)
+turn c = given _ _ _ _ (sym c.loop-roll.invariant.left ∙ c.in-Some.ensures.steps)
 
 pub roll_size-size-requires : goal.roll_size-size-requires
-roll_size-size-requires c =
-    let l = c.loop in (
-      rw (c.roll_at.ensures ∙ roll_cut c.args.e.now l.counter l.at l.invariant.0)
-          (roll_holds c.requires.0 l.counter (below (goal.at.roll_size-size-requires c).In-loop)),
-      c.requires.1,
-      c.requires.2,
-    )
+roll_size-size-requires c = let t = turn c in (rw t.roll_is (roll_holds c.requires.0 _ t.below), c.requires.1, c.requires.2)
 
 pub overflow_add-size : goal.overflow_add-size
 overflow_add-size c =
-    omega (
-      arith,
-      c.roll_size-size.ensures.1,
-      c.loop.invariant.2,
-      below (goal.at.overflow_add-size c).In-loop,
-      c.shared_slice_known-1.given 0,
-    )
+    let t = turn (goal.at.overflow_add-size c).In-Some in
+    omega (arith, c.roll_size-size.ensures.1, c.loop-roll.invariant.bound, t.below, c.shared_slice_known-1.given 0)
 
-pub next_old-at-requires : goal.next_old-at-requires
-next_old-at-requires c = (
-  head_lies c.requires.0 c.loop.counter c.loop.at
-      c.loop.invariant.0 (below (goal.at.next_old-at-requires c).In-loop),
-  c.requires.0.short,
-)
-
-pub loop-preserved : goal.loop-preserved
-loop-preserved c =
+pub loop-roll-preserved : goal.loop-roll-preserved
+loop-roll-preserved c =
     let a = c.args in
     let s = a.e.now in
-    let l = c.loop in
-    let cut = c.roll_at.ensures ∙ roll_cut s l.counter l.at l.invariant.0 in
-    let size = c.roll_size-size.ensures.0 ∙ ap (λ (roll : List ℕ). roll_size roll a.table.now a.count) cut in (
-      old_step s l.counter l.at l.invariant.0 c.next_old-at.ensures,
-      omega (arith, l.invariant.1, size, whole_next s a.table.now a.table.now a.count l.counter),
-      omega (arith, l.invariant.2, c.roll_size-size.ensures.1),
-    )
+    let l = c.loop-roll in
+    let i = length l.yielded in
+    let t = turn (goal.at.loop-roll-preserved c).In-Some in
+    let size = c.roll_size-size.ensures.0 ∙ ap (λ (roll : List ℕ). roll_size roll a.table.now a.count) t.roll_is in
+    rw (length_push l.yielded c.in-Some.roll)
+    (record {
+      given = omega (arith, t.below);
+      left = t.left_is;
+      size = omega (arith, l.invariant.size, size, whole_next s a.table.now a.table.now a.count i);
+      bound = omega (arith, l.invariant.bound, c.roll_size-size.ensures.1);
+    })
 
 pub returns : goal.returns
 returns c =
     let a = c.args in
-    let l = c.loop in
-    let e : l.counter ≡ old_count a.e.now = omega (arith, c.old_count-end.ensures) in
-    l.invariant.1 ∙ ap (whole_size a.e.now a.table.now a.count) e
+    let l = c.loop-roll in
+    let e = ended a.e.now (length l.yielded) l.invariant.given (sym l.invariant.left ∙ c.in-None.ensures.steps.0) in
+    l.invariant.size ∙ ap (whole_size a.e.now a.table.now a.count) e

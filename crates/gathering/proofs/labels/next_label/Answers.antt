@@ -1,59 +1,50 @@
-use mathlib.Core.Path.{◌≡◌, refl, sym, ap, ap₂, ◌∙◌}
+use mathlib.Core.Path.{refl, sym, ap, ap₂, ◌∙◌}
 use mathlib.Core.List.{List}
-use Prim.Native.Nat.{ℕ, ◌<◌}
+use Prim.Native.Nat.{ℕ}
 use native.Mathlib.Omega.{arith}
+use lib.ListN.{length}
+use Rattle.std.proofs.lemmas.List.{length_push}
 use Rattle.roll.specs.Roll.{roll_layout}
-use Rattle.rules.specs.Bundle.{old_count, old_at}
-use Rattle.bundle.proofs.Places.{old_step}
+use Rattle.bundle.specs.Rolls.{rolls_left}
+use Rattle.bundle.proofs.RollsLeft.{Given_next, start, given, ended}
 use Rattle.maker.specs.Rolls.{nearest_in, next_of}
-use Rattle.gathering.proofs.Walks.{some_byte, entry_lies, head_lies, roll_holds, roll_cut, next_next}
+use Rattle.gathering.proofs.Walks.{roll_holds, next_next}
 use Rattle.gathering.proofs.labels.next_label.Goals as goal
-use Rattle.gathering.proofs.labels.next_label.Goals.{In-loop}
+use Rattle.gathering.proofs.labels.next_label.Goals.{In-Some}
 
-pub old_count-end-requires : goal.old_count-end-requires
-old_count-end-requires c = some_byte c.requires
+pub of-roll-items-requires : goal.of-roll-items-requires
+of-roll-items-requires c = (omega (arith, c.requires.within), c.requires.short)
 
-pub loop-init : goal.loop-init
-unfolding old_at next_of
-loop-init c = (refl, refl)
+pub loop-roll-init : goal.loop-roll-init
+unfolding next_of
+loop-roll-init c =
+    let e = c.args.e.now in
+    record { given = omega arith; left = ap rolls_left c.into_iter-roll-iterator.ensures.into_iter_gives ∙ c.of-roll-items.ensures ∙ start e; found = refl }
 
-below : (c : In-loop) → c.loop.counter < old_count c.args.e.now
-below c = omega (arith, c.old_count-end.ensures)
-
-pub roll_at-requires : goal.roll_at-requires
-roll_at-requires c = (
-  entry_lies c.requires c.loop.counter c.loop.at c.loop.invariant.0 (below c),
-  c.requires.short,
-)
+turn : (c : In-Some) → Given_next c.args.e.now (length c.loop-roll.yielded) c.in-Some.roll.now (rolls_left c.next.new.self)
+turn c = given _ _ _ _ (sym c.loop-roll.invariant.left ∙ c.in-Some.ensures.steps)
 
 pub nearest_in-next-requires : goal.nearest_in-next-requires
-nearest_in-next-requires c =
-    let l = c.loop in
-    rw (c.roll_at.ensures ∙ roll_cut c.args.e.now l.counter l.at l.invariant.0)
-    (roll_holds c.requires l.counter (below (goal.at.nearest_in-next-requires c).In-loop))
+nearest_in-next-requires c = let t = turn c in rw t.roll_is (roll_holds c.requires _ t.below)
 
-pub next_old-at-requires : goal.next_old-at-requires
-next_old-at-requires c = (
-  head_lies c.requires c.loop.counter c.loop.at
-      c.loop.invariant.0 (below (goal.at.next_old-at-requires c).In-loop),
-  c.requires.short,
-)
-
-pub loop-preserved : goal.loop-preserved
-loop-preserved c =
+pub loop-roll-preserved : goal.loop-roll-preserved
+loop-roll-preserved c =
     let a = c.args in
-    let s = a.e.now in
-    let l = c.loop in
-    let cut = c.roll_at.ensures ∙ roll_cut s l.counter l.at l.invariant.0 in (
-      old_step s l.counter l.at l.invariant.0 c.next_old-at.ensures,
-      c.nearest_in-next.ensures
-          ∙ ap₂ (λ (roll best : List ℕ). nearest_in (roll_layout.cut roll) a.last best (roll_layout.cut roll).count) cut l.invariant.1
-          ∙ sym (next_next s a.last l.counter),
-    )
+    let l = c.loop-roll in
+    let i = length l.yielded in
+    let t = turn (goal.at.loop-roll-preserved c).In-Some in
+    rw (length_push l.yielded c.in-Some.roll)
+    (record {
+      given = omega (arith, t.below);
+      left = t.left_is;
+      found = c.nearest_in-next.ensures
+          ∙ ap₂ (λ (roll best : List ℕ). nearest_in (roll_layout.cut roll) a.last best (roll_layout.cut roll).count) t.roll_is l.invariant.found
+          ∙ sym (next_next a.e.now a.last i);
+    })
 
 pub returns : goal.returns
 returns c =
     let a = c.args in
-    let l = c.loop in
-    let e : l.counter ≡ old_count a.e.now = omega (arith, c.old_count-end.ensures) in
-    l.invariant.1 ∙ ap (next_of a.e.now a.last) e
+    let l = c.loop-roll in
+    let e = ended a.e.now (length l.yielded) l.invariant.given (sym l.invariant.left ∙ c.in-None.ensures.steps.0) in
+    l.invariant.found ∙ ap (next_of a.e.now a.last) e

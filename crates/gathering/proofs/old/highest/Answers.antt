@@ -1,62 +1,52 @@
-use mathlib.Core.Path.{◌≡◌, refl, sym, ap, ap₂, ◌∙◌}
+use mathlib.Core.Path.{refl, sym, ap, ap₂, ◌∙◌}
 use mathlib.Core.Bool.{cond}
 use mathlib.Core.List.{List}
-use Prim.Native.Nat.{ℕ, ◌<◌}
+use Prim.Native.Nat.{ℕ}
 use native.Mathlib.Omega.{arith}
 use lib.Dec.{ltb}
-use Rattle.rules.specs.Bundle.{old_count, old_at}
-use Rattle.bundle.proofs.Places.{old_step}
+use lib.ListN.{length}
+use Rattle.std.proofs.lemmas.List.{length_push}
+use Rattle.bundle.specs.Rolls.{rolls_left}
+use Rattle.bundle.proofs.RollsLeft.{Given_next, start, given, ended}
 use Rattle.maker.specs.declared.Highest.{Highest}
 use Rattle.maker.specs.Rolls.{highest_of, highest}
 use Rattle.gathering.specs.Old.{row_of}
-use Rattle.gathering.proofs.Walks.{some_byte, entry_lies, head_lies, roll_holds, roll_cut, highest_next}
+use Rattle.gathering.proofs.Walks.{roll_holds, highest_next}
 use Rattle.gathering.proofs.old.highest.Goals as goal
-use Rattle.gathering.proofs.old.highest.Goals.{In-loop}
+use Rattle.gathering.proofs.old.highest.Goals.{In-Some}
 
-pub old_count-end-requires : goal.old_count-end-requires
-old_count-end-requires c = some_byte c.requires
+pub of-roll-items-requires : goal.of-roll-items-requires
+of-roll-items-requires c = (omega (arith, c.requires.within), c.requires.short)
 
-pub loop-init : goal.loop-init
-unfolding old_at highest_of
-loop-init c = (refl, refl)
+pub loop-roll-init : goal.loop-roll-init
+unfolding highest_of
+loop-roll-init c =
+    let e = c.args.e.now in
+    record { given = omega arith; left = ap rolls_left c.into_iter-roll-iterator.ensures.into_iter_gives ∙ c.of-roll-items.ensures ∙ start e; best = refl }
 
-below : (c : In-loop) → c.loop.counter < old_count c.args.e.now
-below c = omega (arith, c.old_count-end.ensures)
-
-pub roll_at-requires : goal.roll_at-requires
-roll_at-requires c = (
-  entry_lies c.requires c.loop.counter c.loop.at c.loop.invariant.0 (below c),
-  c.requires.short,
-)
+turn : (c : In-Some) → Given_next c.args.e.now (length c.loop-roll.yielded) c.in-Some.roll.now (rolls_left c.next.new.self)
+turn c = given _ _ _ _ (sym c.loop-roll.invariant.left ∙ c.in-Some.ensures.steps)
 
 pub old_row-requires : goal.old_row-requires
-old_row-requires c =
-    let s = c.args.e.now in
-    let l = c.loop in
-    rw (c.roll_at.ensures ∙ roll_cut s l.counter l.at l.invariant.0) (roll_holds c.requires l.counter (below (goal.at.old_row-requires c).In-loop))
+old_row-requires c = let t = turn c in rw t.roll_is (roll_holds c.requires _ t.below)
 
-pub next_old-at-requires : goal.next_old-at-requires
-next_old-at-requires c = (
-  head_lies c.requires c.loop.counter
-      c.loop.at c.loop.invariant.0 (below (goal.at.next_old-at-requires c).In-loop),
-  c.requires.short,
-)
-
-pub loop-preserved : goal.loop-preserved
-loop-preserved c =
+pub loop-roll-preserved : goal.loop-roll-preserved
+loop-roll-preserved c =
     let a = c.args in
-    let s = a.e.now in
-    let l = c.loop in
-    let cut = c.roll_at.ensures ∙ roll_cut s l.counter l.at l.invariant.0 in
-    let row = c.old_row.ensures ∙ ap (λ (roll : List ℕ). row_of roll a.label) cut in (
-      old_step s l.counter l.at l.invariant.0 c.next_old-at.ensures,
-      c.higher-best.ensures ∙ ap₂ (λ (b r : Highest). cond (ltb b.height r.height) r b) l.invariant.1 row ∙ sym (highest_next s a.label l.counter),
-    )
+    let l = c.loop-roll in
+    let i = length l.yielded in
+    let t = turn (goal.at.loop-roll-preserved c).In-Some in
+    let row = c.old_row.ensures ∙ ap (λ (roll : List ℕ). row_of roll a.label) t.roll_is in
+    rw (length_push l.yielded c.in-Some.roll)
+    (record {
+      given = omega (arith, t.below);
+      left = t.left_is;
+      best = c.higher-best.ensures ∙ ap₂ (λ (b r : Highest). cond (ltb b.height r.height) r b) l.invariant.best row ∙ sym (highest_next a.e.now a.label i);
+    })
 
 pub returns : goal.returns
 unfolding highest
 returns c =
-    let a = c.args in
-    let l = c.loop in
-    let e : l.counter ≡ old_count a.e.now = omega (arith, c.old_count-end.ensures) in
-    l.invariant.1 ∙ ap (highest_of a.e.now a.label) e
+    let l = c.loop-roll in
+    let e = ended c.args.e.now (length l.yielded) l.invariant.given (sym l.invariant.left ∙ c.in-None.ensures.steps.0) in
+    l.invariant.best ∙ ap (highest_of c.args.e.now c.args.label) e
