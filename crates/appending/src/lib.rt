@@ -2,9 +2,7 @@
 #![tactic(auto)]
 
 mod appending;
-mod before;
 mod table;
 
 pub use appending::{append, check_append, enter};
-pub use before::{Moved, is_next};
 pub use table::{Shown, move_row};

@@ -1,10 +1,10 @@
 -- What a call may count on whose ledger is found, and its place. Assumes nothing.
-use mathlib.Core.Path.{◌≡◌, refl, sym, ap, ◌∙◌}
+use mathlib.Core.Path.{◌≡◌, refl, sym, ◌∙◌}
 use mathlib.Core.Bool.{true}
 use mathlib.Core.List.{List, []}
 use Prim.Native.Nat.{ℕ}
 use native.Mathlib.Omega.{arith}
-use borrow.Author.Tests.{eqb-false, eq-eqb, ne_eqb}
+use borrow.Author.Tests.{eqb-false}
 use Rattle.refusals.specs.{accepted, no_such_ledger, not_active}
 use Rattle.refusals.specs.declared.Refusal.{Refusal}
 use Rattle.refusals.specs.Order.{first}
@@ -16,11 +16,11 @@ use Rattle.rows.specs.Table.{rows_fit}
 use Rattle.rows.proofs.Tables.{fit_length, fit_count}
 use Rattle.rules.specs.Record.{active}
 use Rattle.rules.specs.Outcomes.{Lent, answer_placed}
-use Rattle.rules.specs.Rows.{is_absent, row_number, sought}
+use Rattle.rules.specs.Rows.{is_absent, sought}
 use Rattle.rules.proofs.FoundRows.{row_found}
 use Rattle.rules.proofs.Firsts.{ready, sound_rows}
 use Rattle.ledgers.specs.Known.{Findable}
-use Rattle.ledgers.specs.Tests.{found, place_if}
+use Rattle.ledgers.specs.Tests.{found}
 
 pub findable : (size : ℕ) (k : Lent) (label : List ℕ) → first (found size k label) ≡ accepted → Findable size k label
 findable size k label e =
@@ -34,19 +34,6 @@ findable size k label e =
       place = omega (arith, row.0, fit_count k.head.count k.table fit);
       holds = row.1;
     }
-
-module _ (n : ℕ) (f : Result ℕ ℕ) where
-  pub placed : n ≡ accepted → place_if n f ≡ row_number f
-  unfolding place_if
-  placed e = rw (eq-eqb n accepted e)
-
-  pub unplaced : (n ≡ accepted → ⊥) → place_if n f ≡ 0
-  unfolding place_if
-  unplaced h = rw (ne_eqb n accepted h)
-
--- one answer, one place
-pub one_place : {i j : ℕ} (n m : ℕ) (f : Result ℕ ℕ) → i ≡ place_if n f → j ≡ place_if m f → n ≡ m → i ≡ j
-one_place n m f e g h = e ∙ ap (λ (l : ℕ). place_if l f) h ∙ sym g
 
 -- one answer, one row
 pub one_row :

@@ -41,32 +41,3 @@ pub fn check_ready(
     }
     Ok(())
 }
-
-// TRANSITION: goes when ledgers, making, recording, entering, leaving and handover have left it for `check_lent`.
-// The first refusal of room and soundness, or 0.
-pub fn unlent(head: Head, table: &[u8], area: &[u8], size: usize) -> u32
-    ensures { result ≡ first (lending size (record { head = head; table = table.now; area = area.now })) }
-{
-    if area.len() < size {
-        return refusals::AREA_TOO_SHORT;
-    }
-    if !is_sound(head, table) {
-        return refusals::RECORD_NOT_SOUND;
-    }
-    refusals::ACCEPTED
-}
-
-// TRANSITION: goes when ledgers, making, recording, entering, leaving and handover have left it for `check_ready`.
-// The first refusal among them, or 0; `number` is the one of another status.
-pub fn unready(head: Head, table: &[u8], area: &[u8], size: usize, status: u8, number: u32) -> u32
-    ensures { result ≡ first (readiness size status number (record { head = head; table = table.now; area = area.now })) }
-{
-    let n = unlent(head, table, area, size);
-    if n != refusals::ACCEPTED {
-        return n;
-    }
-    if head.status != status {
-        return number;
-    }
-    refusals::ACCEPTED
-}

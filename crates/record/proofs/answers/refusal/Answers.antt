@@ -1,8 +1,0 @@
-use borrow.Author.Tests.{eq-eqb, ne_eqb}
-use Rattle.record.proofs.answers.refusal.Goals as goal
-
-pub returns-then-number-eq-OUT_OF_ORDER : goal.returns-then-number-eq-OUT_OF_ORDER
-returns-then-number-eq-OUT_OF_ORDER c = rw (eq-eqb _ _ c.if-number-eq-OUT_OF_ORDER.true)
-
-pub returns-else-number-eq-OUT_OF_ORDER : goal.returns-else-number-eq-OUT_OF_ORDER
-returns-else-number-eq-OUT_OF_ORDER c = rw (ne_eqb _ _ c.if-number-eq-OUT_OF_ORDER.false)
