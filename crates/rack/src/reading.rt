@@ -12,6 +12,7 @@ use crate::keys::{KEY_BYTES, Keys, MOST, is_rising};
 use refusals::Refusal;
 
 // Whether a string has the length that its first byte says, for a count of 1 to 15.
+#[tactic(auto, using(crate::proofs::Walks::first_none), unfolding(crate::specs::Tests::rack_long))]
 fn has_rack_length(s: &[u8]) -> bool
     ensures { result ≡ rack_long s.now }
 {
@@ -41,6 +42,7 @@ fn placed(first: &[[u8; KEY_BYTES]]) -> Keys
 }
 
 // Whether a string is a rack.
+#[tactic(auto, using(crate::proofs::Racks::holds_by, crate::proofs::Racks::long_few, crate::proofs::Racks::long_length, crate::proofs::Racks::cut_first))]
 pub fn is_rack(s: &[u8]) -> bool
     ensures { result ≡ holds rack_layout s.now }
 {
@@ -48,6 +50,7 @@ pub fn is_rack(s: &[u8]) -> bool
 }
 
 // Takes a rack apart into the fifteen places, or the layout is broken and nothing changes.
+#[tactic(auto, using(crate::proofs::Racks::holds_length, crate::proofs::RackTrips::reading_broken))]
 pub fn read_rack(s: &[u8], keys: &mut Keys) -> Result<u8, Refusal>
     ensures { record { answer = answer_of result; count = result_unwrap_or result 0; keys = keys.new } ≡ reading s.now keys.old }
 {

@@ -11,6 +11,7 @@ use octets::{copy_at, is_zero};
 use refusals::Refusal;
 
 // Whether these are contents that reading gives.
+#[tactic(auto, unfolding(crate::specs::Racks::rack_fits))]
 fn is_fitting(keys: Keys, count: usize) -> bool
     ensures { result ≡ rack_fits (record { count = count; keys = keys }) }
 {

@@ -10,24 +10,13 @@ use Rattle.octets.specs.Layouts.{holds}
 use Rattle.octets.proofs.Pieces.{pieces-length}
 use Rattle.rack.specs.Racks.{most, key_bytes, rack_layout, rack_cut}
 use Rattle.rack.proofs.Racks.{cut_keys, holds_few, holds_length}
-use Rattle.rack.proofs.RackTrips.{reading_good, reading_broken}
+use Rattle.rack.proofs.RackTrips.{reading_good}
 use Rattle.rack.proofs.reading.read_rack.Goals as goal
 use Rattle.rack.proofs.reading.read_rack.Goals.{Else-not-is_rack}
-
-pub returns-then-not-is_rack : goal.returns-then-not-is_rack
-returns-then-not-is_rack c =
-    let broken = sym c.is_rack.ensures ∙ c.if-not-is_rack.true in
-    sym (reading_broken c.args.s.now broken c.args.keys.now)
 
 -- past the test
 good : (c : Else-not-is_rack) → holds rack_layout c.args.s.now ≡ true
 good c = sym c.is_rack.ensures ∙ c.if-not-is_rack.false
-
-pub bounds-s-0 : goal.bounds-s-0
-bounds-s-0 c = omega (arith, holds_length c.args.s.now (good (goal.at.bounds-s-0 c).Else-not-is_rack))
-
-pub keys_in-requires : goal.keys_in-requires
-keys_in-requires c = rw c.from.ensures (holds_length c.args.s.now (good (goal.at.keys_in-requires c).Else-not-is_rack))
 
 pub placed-requires : goal.placed-requires
 placed-requires c =

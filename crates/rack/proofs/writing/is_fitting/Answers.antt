@@ -20,7 +20,3 @@ returns-then-is_rising c =
     let z : c.is_zero.result ≡ all_zero (flatten k) =
     c.is_zero.ensures ∙ ap all_zero (c.as_flattened.ensures.value ∙ flat_is _ ∙ ap flatten whole) in
     search rules
-
-pub returns-else-is_rising : goal.returns-else-is_rising
-unfolding rack_fits
-returns-else-is_rising c = search rules
