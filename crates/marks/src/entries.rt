@@ -31,6 +31,7 @@ pub fn entries_fit(s: &[u8], n: usize) -> bool
 }
 
 // Tests one entry's marks: the key is attested, and its signature is valid; if it is not, the refusal is the one given.
+#[tactic(auto, unfolding(refusals::specs::Order::first, crate::specs::Entries::mark_tests))]
 pub fn check_marks(marks: u8, invalid: Refusal) -> Result<(), Refusal>
     ensures { answer_of result ≡ first (mark_tests (refusal_number invalid) marks) }
 {
