@@ -3,7 +3,6 @@ pub mod Bitwise
 pub mod Rotations
 pub mod Mixing
 pub mod Stored
-pub mod Table
 pub mod Absorbed
 pub mod Digests
 pub mod Gap

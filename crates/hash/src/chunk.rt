@@ -3,10 +3,10 @@ ghost use Rattle.std.specs.Prelude.{◌≡◌, ◌/◌, length};
 ghost use Rattle.hash.specs.Padding.{words};
 ghost use Rattle.hash.specs.Rounds.{initial, summed, compressed};
 ghost use Rattle.hash.specs.Digest.{absorbed};
-ghost use Rattle.hash.specs.Sha256.{constants, sha_256};
+ghost use Rattle.hash.specs.Sha256.{sha_256};
 ghost use Rattle.hash.specs.Turns.{eight};
 
-use crate::constants::K;
+use crate::constants::{K, Table};
 use crate::round::Working;
 use crate::turn::{first_rounds, last_rounds};
 use octets::word_at;
@@ -54,23 +54,23 @@ fn sums(h: [u32; 8], s: Working) -> [u32; 8]
 }
 
 // The hash value after one chunk.
-fn compress(h: [u32; 8], w: &mut [u32; 16], k: &[u32; 64], chunk: &[u8]) -> [u32; 8]
-    requires { (k.now ≡ constants) × (length chunk.now ≡ 64) }
+fn compress(h: [u32; 8], w: &mut [u32; 16], table: &Table, chunk: &[u8]) -> [u32; 8]
+    requires { length chunk.now ≡ 64 }
     ensures { result ≡ compressed sha_256 h (words 4 chunk.now 16) }
 {
     fill(w, chunk);
-    let first = first_rounds(working(h), w, k);
-    sums(h, last_rounds(first, w, k))
+    let first = first_rounds(working(h), w, table);
+    sums(h, last_rounds(first, w, table))
 }
 
 // The hash value after the whole chunks of a string. The constants are copied once, since each use of the table copies it whole.
 pub fn absorb(h: [u32; 8], w: &mut [u32; 16], s: &[u8]) -> [u32; 8]
     ensures { result ≡ absorbed sha_256 h s.now (length s.now / 64) }
 {
-    let k = K;
+    let table = Table { k: K };
     let mut value = h;
     for chunk in s.chunks_exact(64) {
-        let next = compress(value, w, &k, chunk);
+        let next = compress(value, w, &table, chunk);
         value = next;
     }
     value

@@ -1,5 +1,15 @@
 // The constants of SHA-256, as FIPS 180-4 prints them in 4.2.2 and 5.3.3.
 
+ghost use Rattle.std.specs.Prelude.{◌≡◌};
+ghost use Rattle.hash.specs.Sha256.{constants};
+
+// The table of constants as the rounds take it, one for each.
+#[derive(Clone, Copy)]
+pub struct Table {
+    pub k: [u32; 64],
+    ghost as_printed: { k ≡ constants },
+}
+
 pub const K: [u32; 64] = [
     0x428a2f98, 0x71374491, 0xb5c0fbcf, 0xe9b5dba5, 0x3956c25b, 0x59f111f1, 0x923f82a4, 0xab1c5ed5,
     0xd807aa98, 0x12835b01, 0x243185be, 0x550c7dc3, 0x72be5d74, 0x80deb1fe, 0x9bdc06a7, 0xc19bf174,

@@ -14,9 +14,12 @@ loop-chunk-init c =
     let f = c.chunks_exact-chunk-items.ensures in
     record { size = rw e f.size; within = omega arith; rest = rw e f.rest; so_far = refl }
 
-pub compress-next-requires : goal.compress-next-requires
+pub invariant_of-table : goal.invariant_of-table
 unfolding constants
-compress-next-requires c = (refl, c.in-Some.ensures.steps.1.1 ∙ c.loop-chunk.invariant.size)
+invariant_of-table c = record { as_printed = refl }
+
+pub compress-next-requires : goal.compress-next-requires
+compress-next-requires c = c.in-Some.ensures.steps.1.1 ∙ c.loop-chunk.invariant.size
 
 pub loop-chunk-preserved : goal.loop-chunk-preserved
 unfolding word_bytes chunk_bytes sha_256
