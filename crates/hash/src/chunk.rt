@@ -64,6 +64,7 @@ fn compress(h: [u32; 8], w: &mut [u32; 16], table: &Table, chunk: &[u8]) -> [u32
 }
 
 // The hash value after the whole chunks of a string. The constants are copied once, since each use of the table copies it whole.
+// `next` stays: the checker has no proof where a call's array goes into a variable that is there already.
 pub fn absorb(h: [u32; 8], w: &mut [u32; 16], s: &[u8]) -> [u32; 8]
     ensures { result ≡ absorbed sha_256 h s.now (length s.now / 64) }
 {
