@@ -1,6 +1,5 @@
 // One block: whether it is damaged, and one made.
 ghost use Rattle.std.specs.Prelude.{◌≡◌, ◌≤◌, length};
-ghost use Rattle.checks.specs.Check.{block_bytes};
 ghost use Rattle.cabinet.specs.Block.{most_text, length_in, layout_right, digest_right, sound, damaged, block_of};
 
 use crate::{DIGEST_PLACE, HEIGHT_PLACE, LENGTH_PLACE, MOST_TEXT, TAIL_PLACE, TEXT_PLACE};
@@ -9,8 +8,7 @@ use octets::{array_at, copy_at, is_zero, number_at, put_number};
 use rows::{LABEL, TAIL, TOP};
 
 // The text length that a block says.
-fn text_length(b: &[u8]) -> usize
-    requires { length b.now ≡ block_bytes }
+fn text_length(b: &[u8; BLOCK]) -> usize
     ensures { result ≡ length_in b.now }
 {
     usize::from(u16::from_be_bytes(array_at(b, LENGTH_PLACE)))
@@ -18,8 +16,7 @@ fn text_length(b: &[u8]) -> usize
 
 // Whether label, height, text length and zeros are as the layout has them.
 #[tactic(auto, unfolding(crate::specs::Block::layout_right, crate::specs::Block::label_in, crate::specs::Block::height_in, crate::specs::Block::rest_in))]
-fn is_laid(b: &[u8]) -> bool
-    requires { length b.now ≡ block_bytes }
+fn is_laid(b: &[u8; BLOCK]) -> bool
     ensures { result ≡ layout_right b.now }
 {
     let height = number_at(b, HEIGHT_PLACE);
@@ -32,8 +29,8 @@ fn is_laid(b: &[u8]) -> bool
 }
 
 // Whether the entry digest is that of the text.
-fn is_digested(b: &[u8]) -> bool
-    requires { (length b.now ≡ block_bytes) × (length_in b.now ≤ most_text) }
+fn is_digested(b: &[u8; BLOCK]) -> bool
+    requires { length_in b.now ≤ most_text }
     ensures { result ≡ digest_right b.now }
 {
     let end = TEXT_PLACE + text_length(b);
@@ -42,8 +39,7 @@ fn is_digested(b: &[u8]) -> bool
 
 // Whether a block is used and not damaged.
 #[tactic(auto, using(crate::proofs::Blocks::laid_length), unfolding(crate::specs::Block::sound))]
-pub fn is_sound(b: &[u8]) -> bool
-    requires { length b.now ≡ block_bytes }
+pub fn is_sound(b: &[u8; BLOCK]) -> bool
     ensures { result ≡ sound b.now }
 {
     is_laid(b) && is_checked(b) && is_digested(b)
@@ -51,8 +47,7 @@ pub fn is_sound(b: &[u8]) -> bool
 
 // Whether a block is used and damaged.
 #[tactic(auto, unfolding(crate::specs::Block::unused, crate::specs::Block::damaged))]
-pub fn is_damaged(b: &[u8]) -> bool
-    requires { length b.now ≡ block_bytes }
+pub fn is_damaged(b: &[u8; BLOCK]) -> bool
     ensures { result ≡ damaged b.now }
 {
     !is_zero(b) && !is_sound(b)

@@ -1,4 +1,5 @@
 -- The laws that the proofs of the store cite, and the theorems about its calls.
+pub mod Cut
 pub mod Places
 pub mod Tests
 pub mod Puts

@@ -12,13 +12,11 @@ use octets::{array_at, is_same, is_zero, number_at};
 use rows::LABEL;
 
 // Block i of an area.
-pub fn block_at(area: &[u8], i: usize) -> &[u8]
+pub fn block_at(area: &[u8], i: usize) -> &[u8; BLOCK]
     requires { block_bytes * i + block_bytes ≤ length area.now }
-    ensures block { result.now ≡ block_at area.now i }
-    ensures long { length result.now ≡ block_bytes }
+    ensures { result.now ≡ block_at area.now i }
 {
-    let from = BLOCK * i;
-    &area[from..from + BLOCK]
+    &area.as_chunks().0[i]
 }
 
 #[tactic(auto, unfolding(cabinet::specs::Block::unused))]
@@ -37,8 +35,7 @@ pub fn damaged_at(area: &[u8], i: usize) -> bool
 }
 
 #[tactic(auto, unfolding(crate::specs::Read::answers, cabinet::specs::Block::label_in, cabinet::specs::Block::height_in))]
-fn is_asked(b: &[u8], label: &[u8], height: u64) -> bool
-    requires { length b.now ≡ block_bytes }
+fn is_asked(b: &[u8; BLOCK], label: &[u8], height: u64) -> bool
     ensures { result ≡ answers label.now height b.now }
 {
     number_at(b, HEIGHT_PLACE) == height && is_same(&b[..LABEL], label) && is_sound(b)
@@ -51,8 +48,7 @@ pub fn answers_at(area: &[u8], i: usize, label: &[u8], height: u64) -> bool
     is_asked(block_at(area, i), label, height)
 }
 
-fn newer(b: &[u8], label: &[u8], found: Newest) -> Newest
-    requires { length b.now ≡ block_bytes }
+fn newer(b: &[u8; BLOCK], label: &[u8], found: Newest) -> Newest
     ensures { result ≡ newer label.now found b.now }
 {
     let height = number_at(b, HEIGHT_PLACE);

@@ -51,6 +51,6 @@ returns c =
     let a = c.args in
     let there = among_some _ _ _ (sym c.first_answer.ensures ∙ c.in-Some.is) in
     ap (λ (l : List ℕ). record { number = 0; written = 512; height = 0; output = l })
-    (c.copy_at.ensures ∙ ap (put a.output.now 0) (c.block_at.ensures.block ∙ ap (block_at a.area.now) (sym there.0)))
+    (c.copy_at.ensures ∙ ap (put a.output.now 0) (c.block_at.ensures ∙ ap (block_at a.area.now) (sym there.0)))
     ∙ read_done a.area.now a.asked.label a.asked.height a.output.now c.if-output-lt-BLOCK.false (sym c.is_area.ensures ∙ c.if-not-is_area.false)
     (λ g. omega (arith, there.1, g))
