@@ -20,18 +20,13 @@ fn is_theirs(byte: u8, first: bool) -> bool
 }
 
 // How many of the first rows belong to the company.
-#[tactic(auto, using(rules::proofs::Companies::row_counted, rules::proofs::Companies::rows_most), unfolding(rules::specs::Companies::company_rows))]
 fn count_theirs(table: &[u8], count: usize, first: bool) -> usize
     requires { (count ≤ most_rows) × (length table.now ≡ table_bytes) }
     ensures { result ≡ company_rows count table.now first }
 {
-    let mut n = 0;
-    for i in 0..count {
-        if is_theirs(table[ROW * i], first) {
-            n += 1;
-        }
-    }
-    n
+    (0..count)
+        .filter(|&i| is_theirs(table[ROW * i], first))
+        .count()
 }
 
 // Whether the label's company has the rows already that it may get.
