@@ -31,15 +31,3 @@ pub fn check_attended(previous: &[u8], own: &[u8], s: &[u8]) -> Result<(), Refus
     check_old_marks(s, Refusal::SignatureNotValid)?;
     check_new_marks(s, Refusal::InitialiseNotValid)
 }
-
-// TRANSITION: goes when composing has left it for `check_attended`.
-// The first refusal of what stands behind a bundle, or 0.
-pub fn unattended(previous: &[u8], own: &[u8], s: &[u8]) -> u32
-    requires { (holds rack_layout previous.now ≡ true) × (holds rack_layout own.now ≡ true) × (list_at s.now 0 ≤ length s.now) × (length s.now ≤ longest_bundle) }
-    ensures { result ≡ first (attended_tests previous.now own.now s.now) }
-{
-    match check_attended(previous, own, s) {
-        Ok(_) => refusals::ACCEPTED,
-        Err(refusal) => refusal.number(),
-    }
-}

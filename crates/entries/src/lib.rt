@@ -4,5 +4,5 @@
 mod asking;
 mod rolls;
 
-pub use asking::{check_attended, unattended};
+pub use asking::check_attended;
 pub use rolls::rolls_hold;

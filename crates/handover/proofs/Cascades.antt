@@ -4,7 +4,7 @@ use mathlib.Core.Bool.{true, false, not}
 use mathlib.Core.List.{List, [], ◌∷◌, ◌++◌, append-nil}
 use Prim.Native.Nat.{ℕ, ◌≤◌, ◌<◌}
 use native.Mathlib.Omega.{arith}
-use borrow.Author.Tests.{eqb-false, ltb-true, not-false}
+use borrow.Author.Tests.{lt-ltb, le-ltb, eqb-false, ltb-true, not-false}
 use lib.ListN.{length}
 use lib.Dec.{eqb, ltb}
 use Rattle.refusals.specs.{accepted, out_of_order, not_prepared, rack_broken, digest_differs, list_broken, roll_broken, not_derived}
@@ -151,7 +151,17 @@ module _ (k : Lent) (previous own s : List ℕ) where
   activate_other =
       lacking out_of_order (bundle_tests 0 k previous own s ++ handover_tests k previous own s) (attended_lack previous own s roll_test refl)
 
--- nor does one of Bytes to check
+-- where nothing that both calls ask refuses, the entry decides
+module _ (k : Lent) (previous own s : List ℕ) (list i : ℕ) (e : first (bundle_tests handover_size k previous own s) ≡ accepted) where
+  pub entry_refuses : entries_of s list ≤ i → check_refusal k previous own s list i ≡ list_broken
+  unfolding first
+  entry_refuses h = bundle_passes handover_size k previous own s (entry_test s list i) e ∙ rw (le-ltb i (entries_of s list) h)
+
+  pub entry_passes : i < entries_of s list → check_refusal k previous own s list i ≡ accepted
+  unfolding first
+  entry_passes h = bundle_passes handover_size k previous own s (entry_test s list i) e ∙ rw (lt-ltb i (entries_of s list) h)
+
+-- nor does one of Bytes to check show a height
 pub check_other : (k : Lent) (previous own s : List ℕ) (list i : ℕ) → eqb (check_refusal k previous own s list i) out_of_order ≡ false
 unfolding bundle_tests readiness lending lacks
 check_other k previous own s list i = lacking out_of_order (bundle_tests handover_size k previous own s ++ entry_test s list i) refl

@@ -6,7 +6,7 @@ use Prim.Native.Nat.{ℕ, ◌+◌, ◌<◌, ◌≤◌}
 use native.Mathlib.Omega.{arith}
 use borrow.Author.Tests.{eqb-true, eqb-false}
 use lib.Dec.{eqb}
-use Rattle.std.specs.Prelude.{Option, Some, None}
+use Rattle.std.specs.Prelude.{Some, None}
 use Rattle.std.specs.Bool.{then_some}
 use Rattle.std.specs.Int.{from_bool}
 use Rattle.octets.proofs.RoundTrips.{and_left, holds_fits}
@@ -16,6 +16,7 @@ use Rattle.roll.specs.Roll.{Roll, roll_layout}
 use Rattle.rules.specs.Bundle.{old_roll, list_at, list_of, added, digests}
 use Rattle.rules.specs.Derivation.{no_more, roll_of, roll_derived}
 use Rattle.rules.proofs.Somes.{each_same}
+use Rattle.bundle.proofs.Listed.{then_none, then_is}
 use Rattle.derivation.specs.Walk.{after, passed, met, derived_from}
 use Rattle.derivation.proofs.Walks.{all_passed, met_has, met_derives, passes_all}
 use Rattle.handover.specs.Asked.{roll_held, led, led_to, keeps}
@@ -29,12 +30,6 @@ walked ours old s i r =
 -- the row of an old roll that is next has the label of row r of ours, and old entry i lists no digests for it
 abbrev pub keeps_next : Roll → Roll → List ℕ → ℕ → ℕ → Bool
 keeps_next ours old s i r = met old ours.rows r && eqb (added s (list_of ours.count i r)) 0
-
-no_some : (n : ℕ) → ◌≡◌ {A = Option ℕ} None (Some n) → ⊥
-no_some n e = cc
-
-some_is : (n m : ℕ) → ◌≡◌ {A = Option ℕ} (Some n) (Some m) → n ≡ m
-some_is n m e = cc
 
 -- the walk goes on by one where the row is there
 pub one_on : (t : Bool) (q n : ℕ) → n ≡ from_bool t → (n ≤ 1) × (q + n ≡ after q t)
@@ -60,18 +55,10 @@ module _ (ours : Roll) (s : List ℕ) (i : ℕ) where
   led_by d e = rw e
 
   pub led_none : None ≡ led_to ours s i → roll_derived ours s i ≡ false
-  led_none e = go (roll_derived ours s i) refl
-    where
-      go : (d : Bool) → roll_derived ours s i ≡ d → d ≡ false
-      go false f = refl
-      go true f = absurd (no_some _ (e ∙ led_by true f))
+  led_none e = then_none _ _ (e ∙ led_by _ refl)
 
   pub led_some : (end : ℕ) → Some end ≡ led_to ours s i → (roll_derived ours s i ≡ true) × (end ≡ list_at s (list_of ours.count i ours.count))
-  led_some end e = go (roll_derived ours s i) refl
-    where
-      go : (d : Bool) → roll_derived ours s i ≡ d → (roll_derived ours s i ≡ true) × (end ≡ list_at s (list_of ours.count i ours.count))
-      go true f = (f, some_is _ _ (e ∙ led_by true f))
-      go false f = absurd (no_some _ (sym (e ∙ led_by false f)))
+  led_some end e = then_is _ _ _ (e ∙ led_by _ refl)
 
   -- where both rolls are in label order
   module _ (fit : rows_fit ours.count ours.rows ≡ true) (held : roll_held s i ≡ true) where

@@ -1,13 +1,14 @@
 // Bytes to check.
-ghost use Rattle.std.specs.Prelude.{◌≡◌, true, ◌+◌, ◌<◌, ◌≤◌, length};
+ghost use Rattle.std.specs.Prelude.{◌≡◌, true, ◌+◌, ◌<◌, ◌≤◌, length, IfOk};
 ghost use Rattle.refusals.specs.Refused.{answer_of};
 ghost use Rattle.rules.specs.Bundle.{longest_bundle, old_at, new_at};
 ghost use Rattle.rules.specs.Outcomes.{Lent, outcome, told};
 ghost use Rattle.rules.specs.Check.{entries_of, checking};
+ghost use Rattle.bundle.specs.Lists.{list_number};
 ghost use Rattle.handover.specs.Asked.{check_refusal, roll_held, old_digest, spoken};
 
 use crate::asking::check_bundled;
-use bundle::{new_count, old_count, old_roll};
+use bundle::{EntryList, new_count, old_count, old_roll};
 use record::give;
 use refusals::Refusal;
 use roll::digest_in;
@@ -15,25 +16,18 @@ use rows::{DIGEST, roll_digest};
 use rules::{Done, Head};
 use statement::{HANDOVER_SIZE, Kind, Statement, handover_statement};
 
-// The lists by their numbers.
-const OLD: u8 = 0;
-
-const NEW: u8 = 1;
-
-// How many entries a list has; there is no third list.
-fn entries_of(s: &[u8], list: u8) -> usize
+// How many entries a list has.
+fn entries_of(s: &[u8], list: EntryList) -> usize
     requires { (new_at s.now < length s.now) × (length s.now ≤ longest_bundle) }
-    ensures { result ≡ entries_of s.now list }
+    ensures { result ≡ entries_of s.now (list_number list) }
 {
-    if list == OLD {
-        return old_count(s);
+    match list {
+        EntryList::Old => old_count(s),
+        EntryList::New => new_count(s),
     }
-    if list == NEW {
-        return new_count(s);
-    }
-    0
 }
 
+// Tests what is asked, and gives the list of the number, which has the entry.
 fn check_entry(
     head: Head,
     table: &[u8],
@@ -43,14 +37,16 @@ fn check_entry(
     s: &[u8],
     list: u8,
     entry: u64,
-) -> Result<(), Refusal>
-    ensures { answer_of result ≡ check_refusal (record { head = head; table = table.now; area = area.now }) previous.now own.now s.now list entry }
+) -> Result<EntryList, Refusal>
+    ensures answer { answer_of result ≡ check_refusal (record { head = head; table = table.now; area = area.now }) previous.now own.now s.now list entry }
+    ensures which { IfOk result (λ which. list_number which ≡ list) }
 {
     check_bundled(head, table, area, HANDOVER_SIZE, previous, own, s)?;
-    if entries_of(s, list) as u64 <= entry {
+    let which = EntryList::try_from(list)?;
+    if entries_of(s, which) as u64 <= entry {
         return Err(Refusal::ListBroken);
     }
-    Ok(())
+    Ok(which)
 }
 
 // The digest of the roll of old entry i.
@@ -62,22 +58,27 @@ fn old_digest(s: &[u8], i: usize) -> [u8; DIGEST]
 }
 
 // The statement that the marks of an entry speak of: the old keeper's last words, or this keeper's first.
-fn spoken(head: Head, table: &[u8], s: &[u8], list: u8, i: usize) -> Statement
-    requires { (list ≡ 0 → old_at s.now (i + 1) ≤ length s.now) × (length s.now ≤ longest_bundle) × (list ≡ 0 → roll_held s.now i ≡ true) }
-    ensures { result ≡ spoken head table.now s.now list i }
+fn spoken(head: Head, table: &[u8], s: &[u8], list: EntryList, i: usize) -> Statement
+    requires { (list_number list ≡ 0 → old_at s.now (i + 1) ≤ length s.now) × (length s.now ≤ longest_bundle)
+        × (list_number list ≡ 0 → roll_held s.now i ≡ true) }
+    ensures { result ≡ spoken head table.now s.now (list_number list) i }
 {
-    if list == OLD {
-        let roll = old_digest(s, i);
-        return handover_statement(Kind::Finalise, head.identity, head.previous, head.own, roll);
+    match list {
+        EntryList::Old => {
+            let roll = old_digest(s, i);
+            handover_statement(Kind::Finalise, head.identity, head.previous, head.own, roll)
+        }
+        EntryList::New => {
+            let roll = roll_digest(usize::from(head.count), table);
+            handover_statement(
+                Kind::Initialise,
+                head.identity,
+                head.own,
+                head.previous,
+                roll,
+            )
+        }
     }
-    let roll = roll_digest(usize::from(head.count), table);
-    handover_statement(
-        Kind::Initialise,
-        head.identity,
-        head.own,
-        head.previous,
-        roll,
-    )
 }
 
 // The statement that the marks of an entry of a list speak of.
@@ -93,8 +94,8 @@ pub fn bytes_to_check(
 ) -> Result<Done, Refusal>
     ensures { outcome (told head result) table.now area.new ≡ checking (record { head = head; table = table.now; area = area.old }) previous.now own.now s.now list entry }
 {
-    check_entry(head, table, area, previous, own, s, list, entry)?;
-    give(spoken(head, table, s, list, entry as usize), area);
+    let which = check_entry(head, table, area, previous, own, s, list, entry)?;
+    give(spoken(head, table, s, which, entry as usize), area);
     Ok(Done {
         written: HANDOVER_SIZE,
         repeat: false,

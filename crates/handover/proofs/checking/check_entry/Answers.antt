@@ -1,21 +1,30 @@
-use mathlib.Core.Path.{sym, ◌∙◌}
+use mathlib.Core.Path.{◌≡◌, sym, ap, ◌∙◌}
 use native.Mathlib.Omega.{arith}
-use borrow.Author.Tests.{lt-ltb, le-ltb}
-use Rattle.refusals.specs.Order.{first}
 use Rattle.refusals.proofs.Answered.{number_refuses, passed_on}
 use Rattle.statement.specs.Kinds.{handover_size}
 use Rattle.rules.specs.Outcomes.{Lent}
 use Rattle.rules.specs.Check.{entries_of}
-use Rattle.handover.proofs.Cascades.{bundle_refuses, bundle_passes, shown, laid}
+use Rattle.bundle.proofs.Listed.{numbered_is, numbered_broken, numbered_empty}
+use Rattle.handover.proofs.Cascades.{bundle_refuses, entry_refuses, entry_passes, shown, laid}
 use Rattle.handover.proofs.Places.{new_lies}
 use Rattle.handover.proofs.checking.check_entry.Goals as goal
+use Rattle.handover.proofs.checking.check_entry.Goals.{After-entries_of}
 
-pub returns-in_err-check_bundled : goal.returns-in_err-check_bundled
-returns-in_err-check_bundled c =
+pub returns-in_err-check_bundled-clause-answer : goal.returns-in_err-check_bundled-clause-answer
+returns-in_err-check_bundled-clause-answer c =
     let a = c.args in
     let k : Lent = record { head = a.head; table = a.table.now; area = a.area.now } in
     passed_on _ _ c.from_residual.ensures.1
     ∙ bundle_refuses handover_size k a.previous.now a.own.now a.s.now _ _ c.in_err-check_bundled.ensures (number_refuses _)
+
+pub returns-in_err-which-clause-answer : goal.returns-in_err-which-clause-answer
+returns-in_err-which-clause-answer c =
+    let a = c.args in
+    let k : Lent = record { head = a.head; table = a.table.now; area = a.area.now } in
+    let none = numbered_empty a.s.now a.list _ c.in_err-which.ensures in
+    passed_on _ _ c.from_residual-in_err-which.ensures.1
+    ∙ numbered_broken a.list _ c.in_err-which.ensures
+    ∙ sym (entry_refuses k a.previous.now a.own.now a.s.now a.list a.entry (sym c.in_ok-check_bundled.ensures) (omega arith))
 
 pub entries_of-requires : goal.entries_of-requires
 entries_of-requires c =
@@ -24,18 +33,23 @@ entries_of-requires c =
     let lies = laid (shown handover_size k a.previous.now a.own.now a.s.now (sym c.in_ok-check_bundled.ensures)).0 in
     (omega (arith, new_lies lies), lies.short)
 
-pub returns-then-entries_of-entry : goal.returns-then-entries_of-entry
-unfolding first
-returns-then-entries_of-entry c =
-    let a = c.args in
-    let k : Lent = record { head = a.head; table = a.table.now; area = a.area.now } in
-    sym (bundle_passes handover_size k a.previous.now a.own.now a.s.now _ (sym c.in_ok-check_bundled.ensures)
-    ∙ rw (le-ltb a.entry (entries_of a.s.now a.list) (omega (arith, c.if-entries_of-entry.true, c.entries_of.ensures))))
+-- as many as the list of the number has
+counted : (c : After-entries_of) → c.entries_of.result ≡ entries_of c.args.s.now c.args.list
+counted c = c.entries_of.ensures ∙ ap (entries_of c.args.s.now) (sym (numbered_is c.args.list _ c.in_ok-which.ensures))
 
-pub returns : goal.returns
-unfolding first
-returns c =
+pub returns-then-entries_of-entry-clause-answer : goal.returns-then-entries_of-entry-clause-answer
+returns-then-entries_of-entry-clause-answer c =
     let a = c.args in
     let k : Lent = record { head = a.head; table = a.table.now; area = a.area.now } in
-    sym (bundle_passes handover_size k a.previous.now a.own.now a.s.now _ (sym c.in_ok-check_bundled.ensures)
-    ∙ rw (lt-ltb a.entry (entries_of a.s.now a.list) (omega (arith, c.if-entries_of-entry.false, c.entries_of.ensures))))
+    let few = counted (goal.at.returns-then-entries_of-entry-clause-answer c).After-entries_of in
+    sym (entry_refuses k a.previous.now a.own.now a.s.now a.list a.entry (sym c.in_ok-check_bundled.ensures) (omega (arith, few, c.if-entries_of-entry.true)))
+
+pub returns-clause-answer : goal.returns-clause-answer
+returns-clause-answer c =
+    let a = c.args in
+    let k : Lent = record { head = a.head; table = a.table.now; area = a.area.now } in
+    let few = counted (goal.at.returns-clause-answer c).After-entries_of in
+    sym (entry_passes k a.previous.now a.own.now a.s.now a.list a.entry (sym c.in_ok-check_bundled.ensures) (omega (arith, few, c.if-entries_of-entry.false)))
+
+pub returns-clause-which : goal.returns-clause-which
+returns-clause-which c = sym (numbered_is c.args.list _ c.in_ok-which.ensures)
