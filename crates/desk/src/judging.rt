@@ -1,15 +1,13 @@
 // The verdict.
-ghost use Rattle.std.specs.Prelude.{◌≡◌, true};
+ghost use Rattle.std.specs.Prelude.{◌≡◌};
 ghost use Rattle.refusals.specs.Refused.{answer_of};
-ghost use Rattle.octets.specs.Layouts.{holds};
-ghost use Rattle.rack.specs.Racks.{rack_layout, rack_digest};
 ghost use Rattle.desk.specs.Verdict.{signers_fit, height_in, verdict_refusal, judging};
 ghost use Rattle.desk.specs.Asked.{asked_with, finding_of};
 
 use crate::asking::{has_other_nonce, is_asked_for};
-use crate::{Finding, Question};
+use crate::{Digested, Finding, Question};
 use marks::{check_all, entries_fit};
-use rack::{is_rack, majority, rack_digest};
+use rack::{is_rack, majority};
 use refusals::Refusal;
 use statement::{DIGEST, Kind, Statement, read_statement};
 
@@ -26,14 +24,13 @@ fn is_signers(n: usize, signers: &[u8]) -> bool
 #[tactic(auto, using(rack::proofs::RackTrips::rack_length), unfolding(crate::specs::Verdict::verdict_refusal, refusals::specs::Order::first, rack::specs::Racks::rack_cut))]
 fn check_verdict(
     question: Question,
-    rack: &[u8],
-    digest: [u8; DIGEST],
+    digested: Digested,
     s: &[u8],
     signers: &[u8],
 ) -> Result<(), Refusal>
-    requires { holds rack_layout rack.now ≡ true → digest ≡ rack_digest rack.now }
-    ensures { answer_of result ≡ verdict_refusal (asked_with question rack.now) s.now signers.now }
+    ensures { answer_of result ≡ verdict_refusal (asked_with question digested.entry.rack.now) s.now signers.now }
 {
+    let rack = digested.rack;
     if !is_rack(rack) {
         return Err(Refusal::RackBroken);
     }
@@ -41,7 +38,7 @@ fn check_verdict(
     if !is_signers(n as usize, signers) {
         return Err(Refusal::ListBroken);
     }
-    if !is_asked_for(question, digest, s) {
+    if !is_asked_for(question, digested.digest, s) {
         return Err(Refusal::StatementNotAsked);
     }
     if has_other_nonce(question, s) {
@@ -86,38 +83,29 @@ impl From<Result<Statement, Refusal>> for Finding {
     }
 }
 
-// The statement that a rack's signers vouch for; the rack's digest was taken before.
+// The statement that a rack's signers vouch for.
 fn vouched(
     question: Question,
-    rack: &[u8],
-    digest: [u8; DIGEST],
+    digested: Digested,
     s: &[u8],
     signers: &[u8],
 ) -> Result<Statement, Refusal>
-    requires { holds rack_layout rack.now ≡ true → digest ≡ rack_digest rack.now }
-    ensures { finding_of result ≡ judging (asked_with question rack.now) s.now signers.now }
+    ensures { finding_of result ≡ judging (asked_with question digested.entry.rack.now) s.now signers.now }
 {
-    check_verdict(question, rack, digest, s, signers)?;
+    check_verdict(question, digested, s, signers)?;
     read_statement(s)
 }
 
 // The verdict by a rack whose digest was taken before.
-pub fn verdict_with(
-    question: Question,
-    rack: &[u8],
-    digest: [u8; DIGEST],
-    s: &[u8],
-    signers: &[u8],
-) -> Finding
-    requires { holds rack_layout rack.now ≡ true → digest ≡ rack_digest rack.now }
-    ensures { result ≡ judging (asked_with question rack.now) s.now signers.now }
+pub fn verdict_with(question: Question, digested: Digested, s: &[u8], signers: &[u8]) -> Finding
+    ensures { result ≡ judging (asked_with question digested.entry.rack.now) s.now signers.now }
 {
-    Finding::from(vouched(question, rack, digest, s, signers))
+    Finding::from(vouched(question, digested, s, signers))
 }
 
 // Tail and height of the ledger, as a majority of the rack's keys signed them.
 pub fn verdict(question: Question, rack: &[u8], s: &[u8], signers: &[u8]) -> Finding
     ensures { result ≡ judging (asked_with question rack.now) s.now signers.now }
 {
-    verdict_with(question, rack, rack_digest(rack), s, signers)
+    verdict_with(question, Digested::new(rack), s, signers)
 }

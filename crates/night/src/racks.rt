@@ -9,7 +9,7 @@ ghost use Rattle.receipts.specs.Judged.{finding};
 ghost use Rattle.night.specs.Pass.{nearest_rack, rack_read};
 
 use crate::Nearest;
-use desk::Finding;
+use desk::{Digested, Finding};
 use octets::array_at;
 use rack::{KEY_BYTES, rack_digest};
 use receipts::{RACK_PLACE, judged};
@@ -35,6 +35,8 @@ impl Nearest {
         requires digest_value { holds racks.rack_layout (nearest_rack self.now) ≡ true → self.now.digest ≡ racks.rack_digest (nearest_rack self.now) }
         ensures { result ≡ finding (nearest_rack self.now) b.now }
     {
-        judged(&self.rack[..self.size], self.digest, b)
+        let digest = self.digest;
+        let rack = &self.rack[..self.size];
+        judged(Digested { rack, digest }, b)
     }
 }

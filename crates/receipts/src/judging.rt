@@ -1,7 +1,6 @@
 // What the desk finds of a receipt.
-ghost use Rattle.std.specs.Prelude.{◌≡◌, true, ◌≤◌, length};
-ghost use Rattle.octets.specs.Layouts.{holds};
-ghost use Rattle.rack.specs.Racks.{most, rack_layout, rack_digest};
+ghost use Rattle.std.specs.Prelude.{◌≡◌, ◌≤◌, length};
+ghost use Rattle.rack.specs.Racks.{most};
 ghost use Rattle.statement.specs.Kinds.{reading_size};
 ghost use Rattle.checks.specs.Check.{block_bytes};
 ghost use Rattle.receipts.specs.Block.{length_in, count_in};
@@ -11,16 +10,14 @@ use crate::{
     ASKED_PLACE, COUNT_PLACE, IDENTITY_PLACE, LABEL_PLACE, LENGTH_PLACE, NONCE_PLACE, PAIRS_PLACE,
     STATEMENT_PLACE,
 };
-use checks::DIGEST;
-use desk::{Finding, Question, verdict_with};
+use desk::{Digested, Finding, Question, verdict_with};
 use octets::array_at;
 
-// The desk's finding of a receipt under a rack whose digest was taken before; an empty rack is none.
+// The desk's finding of a receipt under a rack; an empty rack is none.
 #[tactic(auto, unfolding(crate::specs::Judged::finding, crate::specs::Judged::question, crate::specs::Block::asked_in, crate::specs::Block::label_in, crate::specs::Block::nonce_in, crate::specs::Block::identity_in, crate::specs::Block::length_in, crate::specs::Block::statement_in, crate::specs::Block::count_in, crate::specs::Block::signers_in))]
-pub fn judged(rack: &[u8], digest: [u8; DIGEST], b: &[u8]) -> Finding
-    requires b_len { (length b.now ≡ block_bytes) × (length_in b.now ≤ reading_size) × (count_in b.now ≤ most) }
-    requires digest_value { holds rack_layout rack.now ≡ true → digest ≡ rack_digest rack.now }
-    ensures { result ≡ finding rack.now b.now }
+pub fn judged(digested: Digested, b: &[u8]) -> Finding
+    requires { (length b.now ≡ block_bytes) × (length_in b.now ≤ reading_size) × (count_in b.now ≤ most) }
+    ensures { result ≡ finding digested.entry.rack.now b.now }
 {
     let identity = array_at(b, IDENTITY_PLACE);
     let label = array_at(b, LABEL_PLACE);
@@ -35,8 +32,7 @@ pub fn judged(rack: &[u8], digest: [u8; DIGEST], b: &[u8]) -> Finding
     let last = PAIRS_PLACE + 2 * usize::from(b[COUNT_PLACE]);
     verdict_with(
         question,
-        rack,
-        digest,
+        digested,
         &b[STATEMENT_PLACE..end],
         &b[PAIRS_PLACE..last],
     )

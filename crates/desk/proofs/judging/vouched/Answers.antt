@@ -22,7 +22,7 @@ returns-in_err-check_verdict c =
 pub returns : goal.returns
 unfolding judging
 returns c =
-    let q : Question = asked_with c.args.question c.args.rack.now in
+    let q : Question = asked_with c.args.question c.args.digested.rack.now in
     let s = c.args.s.now in
     let accepts : verdict_refusal q s c.args.signers.now ≡ 0 = sym c.in_ok-check_verdict.ensures in
     let h : holds statement_layout s ≡ true = (asked q s (vouched q s c.args.signers.now accepts).answers).statement_holds in
