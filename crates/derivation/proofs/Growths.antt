@@ -23,7 +23,8 @@ unfolding grown
 grown_behind tail s zero = refl
 grown_behind tail s (suc n) =
     let place : digest_bytes * suc n ≡ digest_bytes + digest_bytes * n = omega arith in
-    let rest : drop (digest_bytes * suc n) s ≡ drop (digest_bytes * n) (drop digest_bytes s) = ap (λ (k : ℕ). drop k s) place ∙ sym (drop-drop (digest_bytes * n) digest_bytes s) in
+    let rest : drop (digest_bytes * suc n) s ≡ drop (digest_bytes * n) (drop digest_bytes s) =
+    ap (λ (k : ℕ). drop k s) place ∙ sym (drop-drop (digest_bytes * n) digest_bytes s) in
     ap₂ (λ (t d : List ℕ). appended t (take digest_bytes d)) (grown_behind tail s n) rest
 
 pub folded : (tail s : List ℕ) (n : ℕ) → fold appended tail (first_chunks digest_bytes n s) ≡ grown tail s n

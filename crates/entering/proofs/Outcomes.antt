@@ -1,4 +1,5 @@
--- Initialise's contract allows one outcome: two that it allows for the same arguments have the same result, and leave the same in what is lent. Assumes nothing.
+-- Initialise's contract allows one outcome: two that it allows for the same arguments have the same result, and leave the same in what is lent.
+-- Assumes nothing.
 use mathlib.Core.Path.{sym, ◌∙◌}
 use Rattle.rules.specs.Outcomes.{Outcome, outcome, told}
 use Rattle.rules.proofs.Ones.{OneOf}

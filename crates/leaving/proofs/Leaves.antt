@@ -40,4 +40,5 @@ lent_in_order k = lacking out_of_order (lending finalise_size k) refl
 pub left_in_order : (k : Lent) (next : List ℕ) → eqb (finalise_refusal k next) out_of_order ≡ false
 unfolding finalise_refusal lacks
 left_in_order k next =
-    lacking out_of_order ((not (eqb k.head.status active) ⇒ not_active) ∷ (not (holds rack_layout next) ⇒ rack_broken) ∷ (is_of_two next ⇒ rack_of_two) ∷ []) refl
+    lacking out_of_order
+    ((not (eqb k.head.status active) ⇒ not_active) ∷ (not (holds rack_layout next) ⇒ rack_broken) ∷ (is_of_two next ⇒ rack_of_two) ∷ []) refl

@@ -1,4 +1,5 @@
--- The contract of Finalise allows one outcome: two that it allows for the same arguments have the same answer and head, and leave the same area. Assumes nothing.
+-- The contract of Finalise allows one outcome: two that it allows for the same arguments have the same answer and head, and leave the same area.
+-- Assumes nothing.
 use mathlib.Core.Path.{sym, ap, ◌∙◌}
 use mathlib.Core.List.{[]}
 use Rattle.rules.specs.Outcomes.{Outcome, outcome, told}

@@ -43,6 +43,7 @@ recordable k label list expected e =
     }
 
 pub last_fits :
-    (h : Head) (label tail : List ℕ) (height : ℕ) → 1 ≤ height → row_holds label tail height ≡ true → statement_fits (receipt_of h (Append height) label tail) ≡ true
+    (h : Head) (label tail : List ℕ) (height : ℕ) → 1 ≤ height → row_holds label tail height ≡ true
+    → statement_fits (receipt_of h (Append height) label tail) ≡ true
 unfolding all_zero receipt_fits fits_as statement_fits
 last_fits h label tail height low e = rw (le-leb 1 height low, e)

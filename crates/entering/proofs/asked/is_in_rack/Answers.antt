@@ -1,11 +1,10 @@
-use mathlib.Core.Path.{◌≡◌, sym, ap, ◌∙◌}
-use mathlib.Core.List.{List}
+use mathlib.Core.Path.{sym, ap, ◌∙◌}
 use Prim.Native.Nat.{ℕ, ◌≤◌}
 use native.Mathlib.Omega.{arith}
 use lib.ListN.{take}
 use lib.Seq.{length-take-le}
 use Rattle.refusals.proofs.Answered.{number_refuses}
-use Rattle.rack.specs.Racks.{most, is_among, rack_cut}
+use Rattle.rack.specs.Racks.{most, is_among}
 use Rattle.rack.specs.Promise.{Taken}
 use Rattle.rack.proofs.RackTrips.{reading_good, rack_few}
 use Rattle.rules.specs.Initialise.{is_in_rack}

@@ -71,7 +71,8 @@ returns-clause-outcome c =
     let both : length (first ++ second) ≡ receipt_size + reading_size = length-append first second ∙ omega (arith, e.long, long) in
     let area : List ℕ = c.enter-row.new.area in
     let place : ℕ = c.in_ok-place.place in
-    ap (λ (n : ℕ). outcome (told_place a.head n (Ok place)) c.enter-row.new.table (put_mid receipt_size (length area - receipt_size) area c.show.new.area)) (sym both)
+    let after : List ℕ = put_mid receipt_size (length area - receipt_size) area c.show.new.area in
+    ap (λ (n : ℕ). outcome (told_place a.head n (Ok place)) c.enter-row.new.table after) (sym both)
     ∙ done_place k place _ _ _ _ _ _ (passed found) e.moves
     (ap (λ (x : List ℕ). put_mid receipt_size (length area - receipt_size) area x)
     (c.show.ensures.area ∙ ap (λ (x : Statement). put (take (length area - receipt_size) (drop receipt_size area)) 0 (statement_written x)) v)

@@ -49,7 +49,8 @@ given_receipt :
 given_receipt c =
     let high = (goal.at.After-receipt c).After-height_at in
     let s = c in
-    c.receipt.ensures ∙ ap₂ (λ (x : ℕ) (t : List ℕ). receipt_of s.args.head (Append x) s.args.label t) (heights high) (tails (goal.at.After-receipt c).After-grown-tail)
+    c.receipt.ensures
+    ∙ ap₂ (λ (x : ℕ) (t : List ℕ). receipt_of s.args.head (Append x) s.args.label t) (heights high) (tails (goal.at.After-receipt c).After-grown-tail)
 
 pub give-requires : goal.give-requires
 give-requires c =

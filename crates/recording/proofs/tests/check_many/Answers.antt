@@ -47,7 +47,8 @@ pub returns-in_default-clause-told : goal.returns-in_default-clause-told
 returns-in_default-clause-told c =
     let a = c.args in
     let i : ℕ = c.in_default.field-0 in
-    absent_told _ a.label a.list.now a.expected _ c.in_ok-check_listed.ensures refl i (sym (searched (goal.at.returns-in_default-clause-told c).After-find) ∙ c.in_default.is)
+    absent_told _ a.label a.list.now a.expected _ c.in_ok-check_listed.ensures refl i
+    (sym (searched (goal.at.returns-in_default-clause-told c).After-find) ∙ c.in_default.is)
 
 pub height_at-height-requires : goal.height_at-height-requires
 height_at-height-requires c =
