@@ -2,4 +2,3 @@
 pub mod Walks
 pub mod FoundPlaces
 pub mod Nearest
-pub mod Standing

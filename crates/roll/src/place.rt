@@ -1,4 +1,5 @@
 // The rows of a roll, read where they stand in its blocks.
+// `Spread` and `holds roll_layout` stay facts in clauses, for a type in their place would say `self.now.bytes.now` in each, or tell callers nothing.
 ghost use Rattle.std.specs.Prelude.{◌≡◌, ◌*◌, ◌<◌};
 ghost use Rattle.rows.specs.Sizes.{most_rows};
 ghost use Rattle.rows.specs.Row.{label_of, tail_of, height_of};

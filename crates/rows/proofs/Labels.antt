@@ -7,7 +7,7 @@ use native.Mathlib.Omega.{arith}
 use native.Mathlib.Decide.{dec_lt}
 use borrow.Author.Tests.{eq-eqb, ne_eqb, le-ltb}
 use lib.ListN.{length, take, drop, length-take, length-drop}
-use lib.Seq.{take-take, drop-drop, take_all}
+use lib.Seq.{take-take, drop-drop}
 use lib.Dec.{eqb, ltb}
 use Rattle.octets.specs.Numbers.{number_of}
 use Rattle.octets.specs.Strings.{all_zero, before}
@@ -34,11 +34,11 @@ unless_same x y = go (dec_lt x y)
     go (no n) = rw (le-ltb x y (omega arith)) (either (eqb x y))
 
 -- the number of the eight bytes from a place on
-abbrev pub eight : List ℕ → ℕ → ℕ
+abbrev eight : List ℕ → ℕ → ℕ
 eight rows at = number_of (take 8 (drop at rows))
 
 -- the order of two labels: by their first numbers, and where these are the same by the second
-abbrev pub by_halves : ℕ → ℕ → ℕ → ℕ → Bool
+abbrev by_halves : ℕ → ℕ → ℕ → ℕ → Bool
 by_halves a b c d = cond (eqb a c) (ltb b d) (ltb a c)
 
 before_sixteen :
@@ -99,11 +99,3 @@ module _ (s t : List ℕ) (os : Octets s) (ot : Octets t) (at from : ℕ) (hs : 
       eight s at ≡ eight t from
       → ltb (eight s (at + 8)) (eight t (from + 8)) ≡ before (take 16 (drop at s)) (take 16 (drop from t))
   by_second e = rw (before_labels, eq-eqb _ _ e)
-
--- the label of a row beside another
-pub before-label :
-    (rows : List ℕ) (o : Octets rows) (i : ℕ) (label : List ℕ) → row_bytes * i + row_bytes ≤ length rows → Octets label → length label ≡ 16
-    → before (label_of rows i) label ≡ by_halves (eight rows (row_bytes * i)) (eight rows (row_bytes * i + 8)) (eight label 0) (eight label 8)
-unfolding label_of
-before-label rows o i label h ol l =
-    rw (take_all 16 label (omega arith)) at (before_labels rows label o ol (row_bytes * i) 0 (omega arith) (omega arith))

@@ -10,7 +10,8 @@ returns-then-a-b c =
     let s = c.type_inv.s in
     let t = c.type_inv.t in
     rw (c.number_at-a.ensures, c.number_at-b.ensures)
-    (by_first a.s.now a.t.now (λ j. omega (arith, s j)) (λ j. omega (arith, t j)) a.at a.from start.requires.0 start.requires.1 (λ e. c.if-a-b.true (c.number_at-a.ensures ∙ e ∙ sym c.number_at-b.ensures)))
+    (by_first a.s.now a.t.now (λ j. omega (arith, s j)) (λ j. omega (arith, t j)) a.at a.from start.requires.0 start.requires.1
+    (λ e. c.if-a-b.true (c.number_at-a.ensures ∙ e ∙ sym c.number_at-b.ensures)))
 
 pub returns : goal.returns
 returns c =

@@ -11,5 +11,6 @@ use Rattle.rows.proofs.table.all_stand.Goals as goal
 pub returns : goal.returns
 returns c =
     let a = c.args in
-    all_from_yields_List (stands a.rows.now) _ _ _ c.all.ensures.ran (YieldsList-from_range 0 a.count a.count (cc) (omega arith)) (λ x b q k. search (rules, tests))
+    all_from_yields_List (stands a.rows.now) _ _ _ c.all.ensures.ran (YieldsList-from_range 0 a.count a.count (cc) (omega arith))
+    (λ x b q k. search (rules, tests))
     ∙ each_listed (stands a.rows.now) a.count
