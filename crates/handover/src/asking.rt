@@ -12,27 +12,40 @@ use record::{PREPARED, check_ready};
 use refusals::Refusal;
 use rules::Head;
 
-// Tests a bundle and the racks that it is shown with, into an area of so many bytes.
-pub fn check_bundled(
-    head: Head,
-    table: &[u8],
-    area: &[u8],
-    size: usize,
-    previous: &[u8],
-    own: &[u8],
-    s: &[u8],
-) -> Result<(), Refusal>
-    ensures { answer_of result ≡ first (bundle_tests size (record { head = head; table = table.now; area = area.now }) previous.now own.now s.now) }
-{
-    check_ready(head, table, area, size, PREPARED, Refusal::NotPrepared)?;
-    check_racks(head, previous, own)?;
-    let theirs = usize::from(previous[0]);
-    let ours = usize::from(own[0]);
-    if !is_bundle(s, theirs, ours, usize::from(head.count)) {
-        return Err(Refusal::ListBroken);
+// A record, the racks that it is shown, and their bundle.
+#[derive(Clone, Copy)]
+pub struct Handover<'a> {
+    pub head: Head,
+    pub table: &'a [u8],
+    pub previous: &'a [u8],
+    pub own: &'a [u8],
+    pub bundle: &'a [u8],
+}
+
+impl<'a> Handover<'a> {
+    // Tests what both calls ask, into an area of so many bytes.
+    pub fn check(self, area: &[u8], size: usize) -> Result<(), Refusal>
+        ensures { answer_of result
+            ≡ first (bundle_tests size (record { head = self.entry.head; table = self.entry.table.now; area = area.now })
+            self.entry.previous.now self.entry.own.now self.entry.bundle.now) }
+    {
+        check_ready(
+            self.head,
+            self.table,
+            area,
+            size,
+            PREPARED,
+            Refusal::NotPrepared,
+        )?;
+        check_racks(self.head, self.previous, self.own)?;
+        let theirs = usize::from(self.previous[0]);
+        let ours = usize::from(self.own[0]);
+        if !is_bundle(self.bundle, theirs, ours, usize::from(self.head.count)) {
+            return Err(Refusal::ListBroken);
+        }
+        if !rolls_hold(self.bundle) {
+            return Err(Refusal::RollBroken);
+        }
+        Ok(())
     }
-    if !rolls_hold(s) {
-        return Err(Refusal::RollBroken);
-    }
-    Ok(())
 }

@@ -7,7 +7,7 @@ ghost use Rattle.rules.specs.Check.{entries_of, checking};
 ghost use Rattle.bundle.specs.Lists.{list_number};
 ghost use Rattle.handover.specs.Asked.{check_refusal, roll_held, old_digest, spoken};
 
-use crate::asking::check_bundled;
+use crate::asking::Handover;
 use bundle::{EntryList, new_count, old_count, old_roll};
 use record::give;
 use refusals::Refusal;
@@ -28,22 +28,14 @@ fn entries_of(s: &[u8], list: EntryList) -> usize
 }
 
 // Tests what is asked, and gives the list of the number, which has the entry.
-fn check_entry(
-    head: Head,
-    table: &[u8],
-    area: &[u8],
-    previous: &[u8],
-    own: &[u8],
-    s: &[u8],
-    list: u8,
-    entry: u64,
-) -> Result<EntryList, Refusal>
-    ensures answer { answer_of result ≡ check_refusal (record { head = head; table = table.now; area = area.now }) previous.now own.now s.now list entry }
+fn check_entry(k: Handover, area: &[u8], list: u8, entry: u64) -> Result<EntryList, Refusal>
+    ensures answer { answer_of result
+        ≡ check_refusal (record { head = k.entry.head; table = k.entry.table.now; area = area.now }) k.entry.previous.now k.entry.own.now k.entry.bundle.now list entry }
     ensures which { IfOk result (λ which. list_number which ≡ list) }
 {
-    check_bundled(head, table, area, HANDOVER_SIZE, previous, own, s)?;
+    k.check(area, HANDOVER_SIZE)?;
     let which = EntryList::try_from(list)?;
-    if entries_of(s, which) as u64 <= entry {
+    if entries_of(k.bundle, which) as u64 <= entry {
         return Err(Refusal::ListBroken);
     }
     Ok(which)
@@ -94,7 +86,14 @@ pub fn bytes_to_check(
 ) -> Result<Done, Refusal>
     ensures { outcome (told head result) table.now area.new ≡ checking (record { head = head; table = table.now; area = area.old }) previous.now own.now s.now list entry }
 {
-    let which = check_entry(head, table, area, previous, own, s, list, entry)?;
+    let k = Handover {
+        head,
+        table,
+        previous,
+        own,
+        bundle: s,
+    };
+    let which = check_entry(k, area, list, entry)?;
     give(spoken(head, table, s, which, entry as usize), area);
     Ok(Done {
         written: HANDOVER_SIZE,

@@ -14,9 +14,9 @@ check_attended-requires c = let k = c.requires in (k.before, k.mine, list_begins
 pub returns-in_err-check_attended : goal.returns-in_err-check_attended
 returns-in_err-check_attended c =
     let a = c.args in
-    let k : Lent = record { head = a.head; table = a.table.now; area = [] } in
+    let k : Lent = record { head = a.k.head; table = a.k.table.now; area = [] } in
     passed_on _ _ c.from_residual.ensures.1
-    ∙ attended_refuse k a.previous.now a.own.now a.s.now _ c.in_err-check_attended.ensures (number_refuses _)
+    ∙ attended_refuse k a.k.previous.now a.k.own.now a.k.bundle.now _ c.in_err-check_attended.ensures (number_refuses _)
 
 pub derived-requires : goal.derived-requires
 derived-requires c = rw c.from.ensures (laid c.requires, c.requires.rows, c.requires.rolls)
@@ -25,12 +25,12 @@ pub returns-then-not-derived : goal.returns-then-not-derived
 unfolding first
 returns-then-not-derived c =
     let a = c.args in
-    let k : Lent = record { head = a.head; table = a.table.now; area = [] } in
-    sym (roll_decides k a.previous.now a.own.now a.s.now (sym c.in_ok-check_attended.ensures) ∙ rw (sym (rw c.from.ensures at c.derived.ensures) ∙ c.if-not-derived.true))
+    let k : Lent = record { head = a.k.head; table = a.k.table.now; area = [] } in
+    sym (roll_decides k a.k.previous.now a.k.own.now a.k.bundle.now (sym c.in_ok-check_attended.ensures) ∙ rw (sym (rw c.from.ensures at c.derived.ensures) ∙ c.if-not-derived.true))
 
 pub returns : goal.returns
 unfolding first
 returns c =
     let a = c.args in
-    let k : Lent = record { head = a.head; table = a.table.now; area = [] } in
-    sym (roll_decides k a.previous.now a.own.now a.s.now (sym c.in_ok-check_attended.ensures) ∙ rw (sym (rw c.from.ensures at c.derived.ensures) ∙ c.if-not-derived.false))
+    let k : Lent = record { head = a.k.head; table = a.k.table.now; area = [] } in
+    sym (roll_decides k a.k.previous.now a.k.own.now a.k.bundle.now (sym c.in_ok-check_attended.ensures) ∙ rw (sym (rw c.from.ensures at c.derived.ensures) ∙ c.if-not-derived.false))
