@@ -7,6 +7,7 @@ use octets::copy_at;
 use rows::{ROW, TABLE};
 
 // The row of a new ledger.
+#[tactic(auto, unfolding(octets::specs::Strings::put))]
 fn new_row(label: [u8; 16]) -> [u8; ROW]
     ensures { result ≡ new_row label }
 {
