@@ -6,20 +6,19 @@ use rows::TABLE;
 use rules::Head;
 use std::io::Result;
 
-fn newly(rt: &impl Print, case: &[u8], head: Head, table: &mut [u8; TABLE], n: u8) -> Result<()> {
-    let told = make(head, table, n);
-    say::answered(rt, case, told.answer)
+fn newly(rt: &impl Print, case: &str, head: Head, table: &mut [u8; TABLE], n: u8) -> Result<()> {
+    say::answered(rt, case, make(head, table, n).err())
 }
 
 // The first company has made 31 ledgers.
 pub fn limits(rt: &impl Print) -> Result<()> {
     let mut table = [0u8; TABLE];
     let head = with_ledgers(founded(&mut table, &rack_of_one(1)), &mut table, 0, 31);
-    newly(rt, b"a company's 32nd ledger", head, &mut table, 32)?;
-    newly(rt, b"the same, first byte 127", head, &mut table, 127)?;
+    newly(rt, "a company's 32nd ledger", head, &mut table, 32)?;
+    newly(rt, "the same, first byte 127", head, &mut table, 127)?;
     newly(
         rt,
-        b"the other company's first, first byte 128",
+        "the other company's first, first byte 128",
         head,
         &mut table,
         128,
@@ -31,14 +30,14 @@ pub fn full_table(rt: &impl Print) -> Result<()> {
     let head = full(&mut table);
     newly(
         rt,
-        b"63 rows, of which its company has 33",
+        "63 rows, of which its company has 33",
         head,
         &mut table,
         161,
     )?;
     newly(
         rt,
-        b"63 rows, of which its company has 30",
+        "63 rows, of which its company has 30",
         head,
         &mut table,
         31,

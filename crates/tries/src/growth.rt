@@ -2,15 +2,16 @@
 use crate::keepers::{enter, founded, full, make, with_ledgers, woken};
 use crate::people::rack_of_one;
 use crate::say;
+use refusals::Refusal;
 use rows::{LABEL, TABLE, TAIL, TOP};
-use rules::{Answer, Head};
+use rules::Head;
 use statement::RECEIPT_SIZE;
 use std::io::Result;
 
 // Where the first row has its height.
 const HEIGHT_PLACE: usize = LABEL + TAIL;
 
-fn append(head: Head, table: &mut [u8; TABLE], expected: u64) -> Answer {
+fn append(head: Head, table: &mut [u8; TABLE], expected: u64) -> Option<Refusal> {
     let mut receipt = [0u8; RECEIPT_SIZE];
     enter(head, table, expected, &mut receipt)
 }
@@ -18,20 +19,19 @@ fn append(head: Head, table: &mut [u8; TABLE], expected: u64) -> Answer {
 pub fn on_blank(rt: &impl Print) -> Result<()> {
     let mut table = [0u8; TABLE];
     let head = woken(&mut table, 1);
-    let answer = append(head, &mut table, 1);
-    say::answered(rt, b"append on a blank keeper", answer)
+    say::answered(rt, "append on a blank keeper", append(head, &mut table, 1))
 }
 
 pub fn made_again(rt: &impl Print) -> Result<()> {
     let mut table = [0u8; TABLE];
     let one = lent(&mut table, 0);
     let again = make(one, &mut table, 1);
-    say::answered(rt, b"new of an existing label", again.answer)?;
+    say::answered(rt, "new of an existing label", again.err())?;
     let all = full(&mut table);
     let among = make(all, &mut table, 1);
-    say::text(rt, b"new of an existing label, with ")?;
-    say::number(rt, all.count as u64)?;
-    say::answered(rt, b" rows", among.answer)
+    print!(rt; "new of an existing label, with ")?;
+    print!(rt; "{}", all.count)?;
+    say::answered(rt, " rows", among.err())
 }
 
 // The keeper of key 1 with ledger 1, which a lent table has at a height.
@@ -52,29 +52,20 @@ pub fn heights(rt: &impl Print) -> Result<()> {
     expecting(rt, TOP, 5)
 }
 
-fn say_height(rt: &impl Print, table: &[u8; TABLE], expected: u64) -> Result<()> {
-    say::text(rt, b"height ")?;
-    say::number(rt, height_of(table))?;
-    say::text(rt, b", expected ")?;
-    say::number(rt, expected)
-}
-
 fn expecting(rt: &impl Print, height: u64, expected: u64) -> Result<()> {
     let mut table = [0u8; TABLE];
     let head = lent(&mut table, height);
-    say_height(rt, &table, expected)?;
-    let answer = append(head, &mut table, expected);
-    say::answered(rt, b"", answer)
+    print!(rt; "height {}, expected {expected}", height_of(&table))?;
+    say::answered(rt, "", append(head, &mut table, expected))
 }
 
 fn expecting_next(rt: &impl Print) -> Result<()> {
     let mut table = [0u8; TABLE];
     let head = lent(&mut table, 0);
-    say_height(rt, &table, 1)?;
-    let answer = append(head, &mut table, 1);
-    say::text(rt, b": ")?;
-    say::number(rt, answer.number as u64)?;
-    say::text(rt, b", and the row is at ")?;
-    say::number(rt, height_of(&table))?;
-    say::text(rt, b"\n")
+    print!(rt; "height {}, expected 1", height_of(&table))?;
+    let number = match append(head, &mut table, 1) {
+        None => refusals::ACCEPTED,
+        Some(refusal) => refusal.number(),
+    };
+    println!(rt; ": {number}, and the row is at {}", height_of(&table))
 }

@@ -1,15 +1,15 @@
 // Taking over a roll.
-ghost use Rattle.std.specs.Prelude.{◌≤◌, length};
 
 use crate::finals::{AREA, finalise};
-use crate::keepers::{founded, with_ledgers, woken};
+use crate::keepers::{after, founded, with_ledgers, woken};
 use crate::layouts::BLOCK;
 use crate::people::{rack_of_one, rack_of_three};
 use crate::say;
+use refusals::Refusal;
 use rows::TABLE;
-use rules::{Answer, Head, Told};
+use rules::{Done, Head};
 use statement::HANDOVER_SIZE;
-use std::io::Result;
+use std::io;
 
 // What stands before an old entry's block: how many old entries, a position, marks and how many blocks.
 const OLD_HEAD: usize = 4;
@@ -29,14 +29,14 @@ fn rolled(count: u8, table: &[u8; TABLE]) -> [u8; BLOCK] {
     roll
 }
 
-// The keeper of key 2 is to take over a roll from a rack.
-fn prepared(
+// The keeper of key 2, woken, is to take over a roll from a rack.
+fn prepare(
+    head: Head,
     table: &mut [u8; TABLE],
     identity: [u8; 32],
     roll: &[u8; BLOCK],
     previous: &[u8],
-) -> Told {
-    let head = woken(table, 2);
+) -> Result<Done, Refusal> {
     let mut area = [0u8; HANDOVER_SIZE];
     entering::initialise(
         head,
@@ -60,33 +60,18 @@ fn left() -> Legacy {
     let mut table = [0u8; TABLE];
     let keeper = founded(&mut table, &rack_of_one(1));
     let mut words = [0u8; AREA];
-    let told = finalise(keeper, &table, 2, &mut words);
-    let head = told.head;
+    let head = after(keeper, finalise(keeper, &table, 2, &mut words));
     let identity = head.identity;
-    let roll = roll_in(&words);
+    let roll = octets::array_at(&words, HANDOVER_SIZE);
     Legacy { identity, roll }
 }
 
-fn roll_in(words: &[u8; AREA]) -> [u8; BLOCK] {
-    roll_behind(words)
-}
-
-// The block behind a finalise statement.
-fn roll_behind(words: &[u8]) -> [u8; BLOCK]
-    requires { 641 ≤ length words.now }
-{
-    let mut roll = [0u8; BLOCK];
-    octets::copy_at(&mut roll, 0, &words[HANDOVER_SIZE..HANDOVER_SIZE + BLOCK]);
-    roll
-}
-
-pub fn roll_alone(rt: &impl Print) -> Result<()> {
+pub fn roll_alone(rt: &impl Print) -> io::Result<()> {
     let legacy = left();
-    let identity = legacy.identity;
-    let roll = legacy.roll;
     let mut table = [0u8; TABLE];
-    let told = prepared(&mut table, identity, &roll, b"");
-    say::answered(rt, b"roll without previous rack", told.answer)
+    let head = woken(&mut table, 2);
+    let told = prepare(head, &mut table, legacy.identity, &legacy.roll, b"");
+    say::answered(rt, "roll without previous rack", told.err())
 }
 
 // The bundle of an old entry with a roll of one block and of a new entry, both attested and with valid signatures.
@@ -116,45 +101,52 @@ fn both(first: &[u8; BLOCK], second: &[u8; BLOCK]) -> [u8; BOTH] {
     bundle
 }
 
-// The keeper of key 2 is shown a bundle.
-fn shown(head: Head, table: &[u8; TABLE], previous: &[u8], bundle: &[u8]) -> Answer {
-    let told = handover::activate(head, table, previous, &rack_of_one(2), bundle);
-    told.answer
-}
-
-// It is to take over a roll from a rack first.
-fn activated(identity: [u8; 32], roll: &[u8; BLOCK], previous: &[u8], bundle: &[u8]) -> Answer {
+// The keeper of key 2 is to take over a roll from a rack, and is shown a bundle.
+fn activated(
+    identity: [u8; 32],
+    roll: &[u8; BLOCK],
+    previous: &[u8],
+    bundle: &[u8],
+) -> Option<Refusal> {
     let mut table = [0u8; TABLE];
-    let told = prepared(&mut table, identity, roll, previous);
-    shown(told.head, &table, previous, bundle)
+    let blank = woken(&mut table, 2);
+    let head = after(blank, prepare(blank, &mut table, identity, roll, previous));
+    handover::activate(head, &table, previous, &rack_of_one(2), bundle).err()
 }
 
 // A roll of one row is to come from a roll of none, beside one that has the row and alone.
-pub fn lacking(rt: &impl Print) -> Result<()> {
+pub fn lacking(rt: &impl Print) -> io::Result<()> {
     let legacy = left();
-    let identity = legacy.identity;
-    let none = legacy.roll;
     let mut rows = [0u8; TABLE];
     let keeper = with_ledgers(founded(&mut rows, &rack_of_one(1)), &mut rows, 0, 1);
     let roll = rolled(keeper.count, &rows);
-    let beside = activated(identity, &roll, &rack_of_three(), &both(&none, &roll));
+    let beside = activated(
+        legacy.identity,
+        &roll,
+        &rack_of_three(),
+        &both(&legacy.roll, &roll),
+    );
     say::answered(
         rt,
-        b"an old roll lacking one of our ledgers, which another has",
+        "an old roll lacking one of our ledgers, which another has",
         beside,
     )?;
-    let alone = activated(identity, &roll, &rack_of_one(1), &listed(&none));
+    let alone = activated(
+        legacy.identity,
+        &roll,
+        &rack_of_one(1),
+        &listed(&legacy.roll),
+    );
     say::answered(
         rt,
-        b"an old roll lacking one of our ledgers, which no other has",
+        "an old roll lacking one of our ledgers, which no other has",
         alone,
     )
 }
 
-pub fn empty(rt: &impl Print) -> Result<()> {
+pub fn empty(rt: &impl Print) -> io::Result<()> {
     let legacy = left();
-    let identity = legacy.identity;
     let roll = legacy.roll;
-    let answer = activated(identity, &roll, &rack_of_one(1), &bundled(&roll));
-    say::answered(rt, b"an empty roll hands over to an empty roll", answer)
+    let answer = activated(legacy.identity, &roll, &rack_of_one(1), &bundled(&roll));
+    say::answered(rt, "an empty roll hands over to an empty roll", answer)
 }

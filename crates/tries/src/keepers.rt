@@ -1,7 +1,8 @@
 // Keepers: woken, founded, with ledgers, and appending.
 use crate::people::{key, label, rack_of_one};
+use refusals::Refusal;
 use rows::{MOST, ROW, TABLE};
-use rules::{Answer, Head, Told};
+use rules::{Done, Head};
 use statement::{HANDOVER_SIZE, RECEIPT_SIZE};
 
 fn nobody() -> Head {
@@ -17,35 +18,34 @@ fn nobody() -> Head {
     }
 }
 
-// The keeper of key n, blank.
-pub fn woken(table: &mut [u8; TABLE], n: u8) -> Head {
-    let told = record::wake(nobody(), table, key(n));
-    told.head
+// The head after a call: a refusal leaves it.
+pub fn after(head: Head, told: Result<Done, Refusal>) -> Head {
+    match told {
+        Ok(done) => done.head,
+        Err(_) => head,
+    }
 }
 
-// The keeper of key 1 is to found a rack.
-pub fn founding(table: &mut [u8; TABLE], rack: &[u8]) -> Told {
-    let head = woken(table, 1);
+// The keeper of key n, blank.
+pub fn woken(table: &mut [u8; TABLE], n: u8) -> Head {
+    let head = nobody();
+    after(head, record::wake(head, table, key(n)))
+}
+
+// A woken keeper founds a rack.
+pub fn found(head: Head, table: &mut [u8; TABLE], rack: &[u8]) -> Result<Done, Refusal> {
     let mut area = [0u8; HANDOVER_SIZE];
-    entering::initialise(
-        head,
-        table,
-        [0u8; 32],
-        &rack[..0],
-        &rack[..0],
-        rack,
-        &mut area,
-    )
+    entering::initialise(head, table, [0u8; 32], &[], &[], rack, &mut area)
 }
 
 // The keeper of key 1, once it has founded its rack.
 pub fn founded(table: &mut [u8; TABLE], rack: &[u8]) -> Head {
-    let told = founding(table, rack);
-    told.head
+    let head = woken(table, 1);
+    after(head, found(head, table, rack))
 }
 
 // The keeper makes ledger n.
-pub fn make(head: Head, table: &mut [u8; TABLE], n: u8) -> Told {
+pub fn make(head: Head, table: &mut [u8; TABLE], n: u8) -> Result<Done, Refusal> {
     let mut area = [0u8; RECEIPT_SIZE];
     making::new(head, table, label(n), &mut area)
 }
@@ -53,11 +53,9 @@ pub fn make(head: Head, table: &mut [u8; TABLE], n: u8) -> Told {
 // The keeper once it has made ledgers with the labels behind one, up to the last.
 pub fn with_ledgers(head: Head, table: &mut [u8; TABLE], behind: u8, last: u8) -> Head {
     let mut keeper = head;
-    let mut n = behind;
-    while n < last {
-        n += 1;
-        let told = make(keeper, table, n);
-        keeper = told.head;
+    for n in behind..last {
+        let next = after(keeper, make(keeper, table, n + 1));
+        keeper = next;
     }
     keeper
 }
@@ -87,7 +85,6 @@ pub fn enter(
     table: &mut [u8; TABLE],
     expected: u64,
     receipt: &mut [u8; RECEIPT_SIZE],
-) -> Answer {
-    let moved = appending::append(head, table, label(1), key(1), expected, receipt);
-    moved.told.answer
+) -> Option<Refusal> {
+    appending::append(head, table, label(1), key(1), expected, receipt).err()
 }

@@ -15,17 +15,10 @@ const ROLL: usize = 7 * BLOCK;
 const FIFTEEN: usize = 1 + MOST * KEY;
 
 pub fn majorities(rt: &impl Print) -> Result<()> {
-    majority(rt, 1)?;
-    majority(rt, 2)?;
-    majority(rt, 3)?;
-    majority(rt, 4)?;
-    majority(rt, 15)
-}
-
-fn majority(rt: &impl Print, n: u8) -> Result<()> {
-    say::text(rt, b"majority of ")?;
-    say::number(rt, n as u64)?;
-    say::numbered(rt, b"", rack::majority(n) as u64)
+    for n in [1, 2, 3, 4, 15] {
+        println!(rt; "majority of {n}: {}", rack::majority(n))?;
+    }
+    Ok(())
 }
 
 pub fn blocks(rt: &impl Print) -> Result<()> {
@@ -46,37 +39,23 @@ fn blocks_of(rt: &impl Print, count: u8) -> Result<()> {
 
 fn blocks_for(rt: &impl Print, count: u8, table: &[u8; TABLE]) -> Result<()> {
     let mut area = [0u8; ROLL];
-    say::text(rt, b"blocks for ")?;
-    say::number(rt, count as u64)?;
-    say::numbered(rt, b" rows", blocks_written(count, table, &mut area) as u64)
-}
-
-fn blocks_written(count: u8, table: &[u8; TABLE], area: &mut [u8; ROLL]) -> usize {
-    roll::write_roll(count, table, area).unwrap_or(0) / BLOCK
+    let bytes = roll::write_roll(count, table, &mut area).unwrap_or(0);
+    println!(rt; "blocks for {count} rows: {}", bytes / BLOCK)
 }
 
 pub fn racks(rt: &impl Print) -> Result<()> {
-    say::numbered(rt, b"a rack with n = 0", answer_to(&[0u8; 1]) as u64)?;
+    read(rt, "a rack with n = 0", &[0u8; 1])?;
     let mut rack = [0u8; SIXTEEN];
     sixteen_keys(&mut rack, 16);
-    say::numbered(rt, b"a rack with n = 16", answer_to_sixteen(&rack) as u64)?;
+    read(rt, "a rack with n = 16", &rack)?;
     sixteen_keys(&mut rack, 15);
-    say::text(rt, b"a rack of 15: ")?;
-    say::number(rt, bytes_of_fifteen(rack) as u64)?;
-    say::text(rt, b" bytes\n")
+    println!(rt; "a rack of 15: {} bytes", bytes_of_fifteen(rack))
 }
 
-// What reading a rack answers.
-fn answer_to(rack: &[u8]) -> u32 {
+// Says what reading a rack answers.
+fn read(rt: &impl Print, case: &str, rack: &[u8]) -> Result<()> {
     let mut keys = [[0u8; KEY]; MOST];
-    match rack::read_rack(rack, &mut keys) {
-        Ok(_) => refusals::ACCEPTED,
-        Err(refusal) => refusal.number(),
-    }
-}
-
-fn answer_to_sixteen(rack: &[u8; SIXTEEN]) -> u32 {
-    answer_to(rack)
+    say::answered(rt, case, rack::read_rack(rack, &mut keys).err())
 }
 
 // How many bytes are written where all keys but the last are read and written again.

@@ -46,9 +46,7 @@ pub fn rack_of_three() -> [u8; THREE] {
 // Sixteen rising keys behind a first byte.
 pub fn sixteen_keys(rack: &mut [u8; SIXTEEN], n: u8) {
     rack[0] = n;
-    let mut i = 0;
-    while i < 16 {
+    for i in 0..16 {
         rack[1 + KEY * i] = i as u8 + 1;
-        i += 1;
     }
 }
