@@ -13,9 +13,6 @@ use Rattle.bundle.proofs.Deciding.{old_fails, old_kept}
 use native.Mathlib.Omega.{arith}
 use Rattle.bundle.proofs.fitting.old_entries_fit.Goals as goal
 
-pub old_count-end-requires : goal.old_count-end-requires
-old_count-end-requires c = c.requires.0
-
 pub loop-init : goal.loop-init
 unfolding old_at lowest entries_fit each
 loop-init c = record { placed = refl; lower = refl; near = omega arith; entries = refl; blocks = refl }
@@ -33,12 +30,6 @@ bounds-s-at c =
     let l = c.loop in
     let k = old_kept a.n a.s.now l.counter l.at l.low l.invariant.placed l.invariant.lower (sym c.old_entry_fits.ensures ∙ c.if-not-old_entry_fits.false) in
     omega (arith, k.head)
-
-pub overflow_cast-low : goal.overflow_cast-low
-overflow_cast-low c = omega (arith, c.shared_slice_known-in-loop-1.given c.loop.at)
-
-pub overflow_add-low : goal.overflow_add-low
-overflow_add-low c = omega (arith, c.shared_slice_known-in-loop-1.given c.loop.at)
 
 pub next_old-at-requires : goal.next_old-at-requires
 next_old-at-requires c =
