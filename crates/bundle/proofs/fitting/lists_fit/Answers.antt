@@ -1,11 +1,7 @@
-use mathlib.Core.Path.{◌≡◌, refl, sym, ap, ◌∙◌}
-use mathlib.Core.Bool.{true}
-use Prim.Native.Nat.{ℕ}
-use lib.ListN.{length}
-use lib.Dec.{eqb}
+use mathlib.Core.Path.{refl, sym, ◌∙◌}
 use Rattle.rows.specs.Table.{each}
 use Rattle.rows.proofs.Tables.{each_next}
-use Rattle.rules.specs.Bundle.{list_at, added_fits}
+use Rattle.rules.specs.Bundle.{added_fits}
 use Rattle.bundle.proofs.Places.{list_step, new_before_lists}
 use Rattle.bundle.proofs.Deciding.{list_fails, list_kept}
 use native.Mathlib.Omega.{arith}
@@ -25,12 +21,6 @@ returns-then-not-list_fits c =
     let l = c.loop in
     sym (list_fails a.s.now l.counter l.at l.invariant.placed a.count (omega arith) (sym c.list_fits.ensures ∙ c.if-not-list_fits.true))
 
-pub next_list-at-requires : goal.next_list-at-requires
-next_list-at-requires c =
-    let l = c.loop in
-    let k = list_kept c.args.s.now l.counter l.at l.invariant.placed (sym c.list_fits.ensures ∙ c.if-not-list_fits.false) in
-    (omega (arith, k.head), c.requires.1)
-
 pub loop-preserved : goal.loop-preserved
 loop-preserved c =
     let l = c.loop in
@@ -38,12 +28,3 @@ loop-preserved c =
     let k = list_kept s l.counter l.at l.invariant.placed (sym c.list_fits.ensures ∙ c.if-not-list_fits.false) in
     let q = list_step s l.counter l.at l.invariant.placed c.next_list-at.ensures in
     record { placed = q; near = omega (arith, q, k.near, c.requires.1); fit = each_next (added_fits s) l.counter l.invariant.fit k.few }
-
-pub returns : goal.returns
-returns c =
-    let a = c.args in
-    let l = c.loop in
-    let s = a.s.now in
-    let e : l.counter ≡ a.count = omega arith in
-    let f : each (added_fits s) a.count ≡ true = rw e at l.invariant.fit in
-    rw f (ap (λ (x : ℕ). eqb x (length s)) (l.invariant.placed ∙ ap (list_at s) e))

@@ -24,20 +24,6 @@ returns-then-not-old_entry_fits c =
     sym (old_fails a.n a.s.now l.counter l.at l.low l.invariant.placed l.invariant.lower (omega (arith, c.old_count-end.ensures))
     (sym c.old_entry_fits.ensures ∙ c.if-not-old_entry_fits.true))
 
-pub bounds-s-at : goal.bounds-s-at
-bounds-s-at c =
-    let a = c.args in
-    let l = c.loop in
-    let k = old_kept a.n a.s.now l.counter l.at l.low l.invariant.placed l.invariant.lower (sym c.old_entry_fits.ensures ∙ c.if-not-old_entry_fits.false) in
-    omega (arith, k.head)
-
-pub next_old-at-requires : goal.next_old-at-requires
-next_old-at-requires c =
-    let a = c.args in
-    let l = c.loop in
-    let k = old_kept a.n a.s.now l.counter l.at l.low l.invariant.placed l.invariant.lower (sym c.old_entry_fits.ensures ∙ c.if-not-old_entry_fits.false) in
-    (omega (arith, k.head), c.requires.1)
-
 pub loop-preserved : goal.loop-preserved
 loop-preserved c =
     let a = c.args in

@@ -51,8 +51,3 @@ loop-preserved c =
       placed = old_step s l.counter l.at l.invariant.placed c.next_old-at.ensures;
       valid = unrefused_more n (number_some c.args.invalid) (old_marks s) l.counter l.invariant.valid valid;
     }
-
-pub returns : goal.returns
-returns c =
-    let e : c.loop.counter ≡ old_count c.args.s.now = omega (arith, c.old_count-end.ensures) in
-    sym (rw e at c.loop.invariant.valid)

@@ -19,9 +19,6 @@ slice_bounds-result-count c = omega (arith, list_first c.args.s.now)
 pub slice_bounds-result-start : goal.slice_bounds-result-start
 slice_bounds-result-start c = omega (arith, list_first c.args.s.now)
 
-pub slice_bounds-result-end : goal.slice_bounds-result-end
-slice_bounds-result-end c = omega (arith, list_first c.args.s.now)
-
 pub returns : goal.returns
 returns c =
     let s = c.args.s.now in

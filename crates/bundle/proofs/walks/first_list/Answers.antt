@@ -2,7 +2,6 @@ use mathlib.Core.Path.{sym, ap, ◌∙◌}
 use Prim.Native.Nat.{ℕ, ◌+◌, ◌*◌}
 use Rattle.rules.specs.Bundle.{byte}
 use Rattle.bundle.proofs.Places.{list_first}
-use native.Mathlib.Omega.{arith}
 use Rattle.bundle.proofs.walks.first_list.Goals as goal
 
 pub returns : goal.returns

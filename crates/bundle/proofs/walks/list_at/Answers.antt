@@ -1,14 +1,9 @@
-use mathlib.Core.Path.{◌≡◌, ap, ◌∙◌}
-use Rattle.rules.specs.Bundle.{list_at}
 use Rattle.bundle.proofs.Places.{list_step, list_ends, new_before_lists}
 use native.Mathlib.Omega.{arith}
 use Rattle.bundle.proofs.walks.list_at.Goals as goal
 
 pub first_list-at-requires : goal.first_list-at-requires
 first_list-at-requires c = (omega (arith, new_before_lists c.args.s.now c.args.j), c.requires.1)
-
-pub loop-init : goal.loop-init
-loop-init c = c.first_list-at.ensures
 
 pub next_list-at-requires : goal.next_list-at-requires
 next_list-at-requires c =
@@ -18,10 +13,3 @@ next_list-at-requires c =
 
 pub loop-preserved : goal.loop-preserved
 loop-preserved c = let l = c.loop in list_step c.args.s.now l.counter l.at l.invariant c.next_list-at.ensures
-
-pub returns : goal.returns
-returns c =
-    let a = c.args in
-    let l = c.loop in
-    let e : l.counter ≡ a.j = omega arith in
-    l.invariant ∙ ap (list_at a.s.now) e

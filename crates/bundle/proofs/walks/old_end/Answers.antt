@@ -1,9 +1,7 @@
-use mathlib.Core.Path.{◌≡◌, refl, sym, ap, ◌∙◌}
+use mathlib.Core.Path.{refl, sym, ap}
 use mathlib.Core.Bool.{Bool}
-use Prim.Native.Nat.{ℕ, ◌+◌}
+use Prim.Native.Nat.{◌+◌}
 use native.Mathlib.Omega.{arith}
-use lib.ListN.{length}
-use lib.Dec.{leb}
 use Rattle.std.specs.Bool.{then_some}
 use Rattle.rules.specs.Bundle.{old_at}
 use Rattle.bundle.proofs.Places.{old_step, old_past}
@@ -25,10 +23,3 @@ loop-preserved c =
       placed = old_step c.args.s.now l.counter l.at l.invariant.placed c.next_old-at.ensures;
       near = omega (arith, c.next_old-at.ensures, c.if-s-at.false, c.requires, c.type_inv.s (l.at + 2));
     }
-
-pub returns : goal.returns
-returns c =
-    let l = c.loop in
-    let s = c.args.s.now in
-    let e : l.counter ≡ c.args.count = omega arith in
-    c.then_some.ensures ∙ ap (λ (x : ℕ). then_some (leb x (length s)) x) (l.invariant.placed ∙ ap (old_at s) e)
