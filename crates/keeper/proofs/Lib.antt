@@ -1,4 +1,4 @@
 -- Laws of the calls on a record that the caller lends.
-pub mod OtherTables
+pub mod Woken
 pub mod MovedRows
 pub mod Outcomes

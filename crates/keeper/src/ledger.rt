@@ -1,86 +1,146 @@
-// The calls on ledgers, over the flat bytes of the table. Those that change the record have one shape.
-ghost use Rattle.std.specs.Prelude.{◌≡◌, false, ◌+◌, ◌<◌};
-ghost use Rattle.rows.specs.Sizes.{most_rows};
-ghost use Rattle.rules.specs.Outcomes.{Lent, Outcome};
+// The calls on ledgers, over the flat bytes of the table: what each is asked, its rule and its core.
+ghost use Rattle.std.specs.Prelude.{◌+◌};
+ghost use Rattle.statement.specs.Kinds.{receipt_size, reading_size};
 ghost use Rattle.rules.specs.New.{making};
 ghost use Rattle.rules.specs.Append.{appending};
 ghost use Rattle.rules.specs.AppendMany.{appending_many};
 ghost use Rattle.rules.specs.Read.{reading, appending_and_reading};
-ghost use Rattle.table.specs.Held.{Leaves, left_by};
+ghost use Rattle.walks.proofs.OtherTables.{making_other, appending_other, appending_many_other, reading_other, both_other};
 
-use appending::Moved;
+use refusals::Refusal;
 use rows::MOST;
-use rules::{Answer, Head};
-use table::{Asked, Left, leave};
+use rules::{Done, Head};
+use statement::{READING_SIZE, RECEIPT_SIZE};
+use table::{Asked, Left, leave, leave_moved};
+use walks::{ChangesRows, Looks};
 
-// New: a row more moves the rows behind it.
-pub fn new_left(head: Head, table: &mut [u8], asked: Asked, area: &mut [u8]) -> Left
-    ensures { Leaves result (record { head = head; table = table.old; area = area.old }) table.new area.new
-        (making (record { head = head; table = table.old; area = area.old }) asked.label) }
-{
-    let label = asked.label;
-    let told = making::new(head, table, label, area);
-    leave(told, true, 0, MOST)
+const BOTH: usize = RECEIPT_SIZE + READING_SIZE;
+
+#[derive(Clone, Copy)]
+pub struct New {
+    pub asked: Asked,
 }
 
-// One row has moved on, or none where the call is refused; the head stays.
-fn leave_moved(moved: Moved) -> Left
-    requires { moved.place < most_rows }
-    ensures { result ≡ left_by moved.told false moved.place (moved.place + 1) }
-{
-    let told = moved.told;
-    let from = moved.place;
-    let to = from + 1;
-    leave(told, false, from, to)
+impl ChangesRows for New {
+    ghost rule = { λ call k. making k call.asked.label };
+
+    ghost size = { receipt_size };
+
+    fn size(&self) -> usize {
+        RECEIPT_SIZE
+    }
+
+    // A row more moves the rows behind it.
+    fn left(self, head: Head, table: &mut [u8], area: &mut [u8]) -> Left {
+        leave(making::new(head, table, self.asked.label, area), 0..MOST)
+    }
+
+    ghost refuses = { λ call. making_other call.asked.label };
 }
 
-// Append.
-pub fn append_left(head: Head, table: &mut [u8], asked: Asked, area: &mut [u8]) -> Left
-    ensures { Leaves result (record { head = head; table = table.old; area = area.old }) table.new area.new
-        (appending (record { head = head; table = table.old; area = area.old }) asked.label asked.entry asked.expected) }
-{
-    let label = asked.label;
-    let entry = asked.entry;
-    let moved = appending::append(head, table, label, entry, asked.expected, area);
-    leave_moved(moved)
+#[derive(Clone, Copy)]
+pub struct Append {
+    pub asked: Asked,
 }
 
-// Append many.
-pub fn append_many_left(
-    head: Head,
-    table: &mut [u8],
-    asked: Asked,
-    list: &[u8],
-    area: &mut [u8],
-) -> Left
-    ensures { Leaves result (record { head = head; table = table.old; area = area.old }) table.new area.new
-        (appending_many (record { head = head; table = table.old; area = area.old }) asked.label list.now asked.expected) }
-{
-    let label = asked.label;
-    let moved = recording::append_many(head, table, label, list, asked.expected, area);
-    leave_moved(moved)
+impl ChangesRows for Append {
+    ghost rule = { λ call k. appending k call.asked.label call.asked.entry call.asked.expected };
+
+    ghost size = { receipt_size };
+
+    fn size(&self) -> usize {
+        RECEIPT_SIZE
+    }
+
+    fn left(self, head: Head, table: &mut [u8], area: &mut [u8]) -> Left {
+        let asked = self.asked;
+        let place = appending::append(head, table, asked.label, asked.entry, asked.expected, area);
+        leave_moved(place, RECEIPT_SIZE)
+    }
+
+    ghost refuses = { λ call. appending_other call.asked.label call.asked.entry call.asked.expected };
 }
 
-// Append and read.
-pub fn append_and_read_left(head: Head, table: &mut [u8], asked: Asked, area: &mut [u8]) -> Left
-    ensures { Leaves result (record { head = head; table = table.old; area = area.old }) table.new area.new
-        (appending_and_reading (record { head = head; table = table.old; area = area.old })
-        asked.label asked.entry asked.expected asked.nonce) }
-{
-    let label = asked.label;
-    let entry = asked.entry;
-    let nonce = asked.nonce;
-    let moved = reading::append_and_read(head, table, label, entry, asked.expected, nonce, area);
-    leave_moved(moved)
+// The list is entry digests, one behind the other.
+#[derive(Clone, Copy)]
+pub struct AppendMany<'a> {
+    pub asked: Asked,
+    pub list: &'a [u8],
 }
 
-// Read, which leaves the record.
-pub fn read_left(head: Head, table: &[u8], asked: Asked, area: &mut [u8]) -> Answer
-    ensures { record { answer = result; left = record { head = head; table = table.now; area = area.new } }
-        ≡ reading (record { head = head; table = table.now; area = area.old }) asked.label asked.nonce }
-{
-    let label = asked.label;
-    let nonce = asked.nonce;
-    let told = reading::read(head, table, label, nonce, area);
-    told.answer
+impl<'a> ChangesRows for AppendMany<'a> {
+    ghost rule = { λ call k. appending_many k call.asked.label call.list.now call.asked.expected };
+
+    ghost size = { receipt_size };
+
+    fn size(&self) -> usize {
+        RECEIPT_SIZE
+    }
+
+    fn left(self, head: Head, table: &mut [u8], area: &mut [u8]) -> Left {
+        let asked = self.asked;
+        let place = recording::append_many(
+            head,
+            table,
+            asked.label,
+            self.list,
+            asked.expected,
+            area,
+        );
+        leave_moved(place, RECEIPT_SIZE)
+    }
+
+    ghost refuses = { λ call. appending_many_other call.asked.label call.list.now call.asked.expected };
+}
+
+#[derive(Clone, Copy)]
+pub struct AppendAndRead {
+    pub asked: Asked,
+}
+
+impl ChangesRows for AppendAndRead {
+    ghost rule = { λ call k. appending_and_reading k call.asked.label call.asked.entry call.asked.expected call.asked.nonce };
+
+    ghost size = { receipt_size + reading_size };
+
+    fn size(&self) -> usize {
+        BOTH
+    }
+
+    fn left(self, head: Head, table: &mut [u8], area: &mut [u8]) -> Left {
+        let asked = self.asked;
+        let place = reading::append_and_read(
+            head,
+            table,
+            asked.label,
+            asked.entry,
+            asked.expected,
+            asked.nonce,
+            area,
+        );
+        leave_moved(place, BOTH)
+    }
+
+    ghost refuses = { λ call. both_other call.asked.label call.asked.entry call.asked.expected call.asked.nonce };
+}
+
+#[derive(Clone, Copy)]
+pub struct Read {
+    pub asked: Asked,
+}
+
+impl Looks for Read {
+    ghost rule = { λ call k. reading k call.asked.label call.asked.nonce };
+
+    ghost size = { reading_size };
+
+    fn size(&self) -> usize {
+        READING_SIZE
+    }
+
+    fn told(self, head: Head, table: &[u8], area: &mut [u8]) -> Result<Done, Refusal> {
+        reading::read(head, table, self.asked.label, self.asked.nonce, area)
+    }
+
+    ghost refuses = { λ call. reading_other call.asked.label call.asked.nonce };
 }

@@ -1,22 +1,19 @@
 // Wake, on a head and a table that the caller lends.
-ghost use Rattle.std.specs.Prelude.{◌≡◌, true, []};
-ghost use Rattle.rows.specs.Sizes.{most_rows};
-ghost use Rattle.rules.specs.Outcomes.{accepting};
+ghost use Rattle.std.specs.Prelude.{◌≡◌, []};
 ghost use Rattle.rules.specs.Wake.{waking, woken};
 ghost use Rattle.table.specs.Held.{Held, over_rows};
 
 use record::BLANK;
 use rows::MOST;
 use rules::{Answer, Head};
-use table::{Asked, Left, Row, head_out, other_length, rows_clear, rows_typed};
+use table::{Asked, Row, other_length, rows_clear, rows_typed};
 
-// What Wake leaves: another head, and every row.
-fn wake_left(asked: Asked) -> Left
-    ensures { result ≡ record { answer = accepting 0; head = woken asked.key; changed = true; from = 0; to = most_rows } }
+// The head of a blank record.
+fn woken(key: [u8; 32]) -> Head
+    ensures { result ≡ woken key }
 {
-    let key = asked.key;
     let zeros = [0u8; 32];
-    let head = Head {
+    Head {
         status: BLANK,
         count: 0,
         key,
@@ -24,19 +21,6 @@ fn wake_left(asked: Asked) -> Left
         own: zeros,
         previous: zeros,
         next: zeros,
-    };
-    let answer = Answer {
-        number: refusals::ACCEPTED,
-        written: 0,
-        height: 0,
-        repeat: false,
-    };
-    Left {
-        answer,
-        head,
-        changed: true,
-        from: 0,
-        to: MOST,
     }
 }
 
@@ -49,8 +33,12 @@ pub extern "C" fn mahqurith_wake(h: &mut Head, rows: &mut [Row], asked: Asked) -
     if rows.len() != MOST {
         return other_length(0, 0);
     }
-    let left = wake_left(asked);
-    head_out(h, left);
+    *h = woken(asked.key);
     rows_clear(rows);
-    left.answer
+    Answer {
+        number: refusals::ACCEPTED,
+        written: 0,
+        height: 0,
+        repeat: false,
+    }
 }

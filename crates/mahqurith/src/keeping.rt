@@ -31,7 +31,8 @@ pub extern "C" fn mahqurith_append(
     asked: Asked,
     area: &mut [u8],
 ) -> Answer
-    ensures { record { answer = result; head = h.new; rows = rows.new; area = area.new } ≡ over_rows (λ k. appending k asked.label asked.entry asked.expected) h.old rows.old area.old }
+    ensures { record { answer = result; head = h.new; rows = rows.new; area = area.new }
+        ≡ over_rows (λ k. appending k asked.label asked.entry asked.expected) h.old rows.old area.old }
 {
     keeper::mahqurith_append(h, rows, asked, area)
 }
@@ -39,7 +40,8 @@ pub extern "C" fn mahqurith_append(
 // Read.
 #[unsafe(no_mangle)]
 pub extern "C" fn mahqurith_read(h: &Head, rows: &[Row], asked: Asked, area: &mut [u8]) -> Answer
-    ensures { record { answer = result; head = h.now; rows = rows.now; area = area.new } ≡ over_rows (λ k. reading k asked.label asked.nonce) h.now rows.now area.old }
+    ensures { record { answer = result; head = h.now; rows = rows.now; area = area.new }
+        ≡ over_rows (λ k. reading k asked.label asked.nonce) h.now rows.now area.old }
 {
     keeper::mahqurith_read(h, rows, asked, area)
 }
@@ -52,7 +54,8 @@ pub extern "C" fn mahqurith_append_and_read(
     asked: Asked,
     area: &mut [u8],
 ) -> Answer
-    ensures { record { answer = result; head = h.new; rows = rows.new; area = area.new } ≡ over_rows (λ k. appending_and_reading k asked.label asked.entry asked.expected asked.nonce) h.old rows.old area.old }
+    ensures { record { answer = result; head = h.new; rows = rows.new; area = area.new }
+        ≡ over_rows (λ k. appending_and_reading k asked.label asked.entry asked.expected asked.nonce) h.old rows.old area.old }
 {
     keeper::mahqurith_append_and_read(h, rows, asked, area)
 }
@@ -66,7 +69,8 @@ pub extern "C" fn mahqurith_append_many(
     list: &[u8],
     area: &mut [u8],
 ) -> Answer
-    ensures { record { answer = result; head = h.new; rows = rows.new; area = area.new } ≡ over_rows (λ k. appending_many k asked.label list.now asked.expected) h.old rows.old area.old }
+    ensures { record { answer = result; head = h.new; rows = rows.new; area = area.new }
+        ≡ over_rows (λ k. appending_many k asked.label list.now asked.expected) h.old rows.old area.old }
 {
     keeper::mahqurith_append_many(h, rows, asked, list, area)
 }

@@ -1,4 +1,4 @@
 -- Laws of the calls by which one rack follows another.
-pub mod OtherTables
+pub mod AnyArea
 pub mod Repeats
 pub mod Outcomes

@@ -3,10 +3,10 @@ ghost use Rattle.std.specs.Prelude.{◌≡◌, []};
 ghost use Rattle.rules.specs.Activate.{activating};
 ghost use Rattle.table.specs.Held.{Held, over_rows};
 
-use crate::status::activate_left;
-use rows::{MOST, TABLE};
+use crate::status::Activate;
 use rules::{Answer, Head};
-use table::{Row, flat_in, head_out, other_length, rows_typed};
+use table::Row;
+use walks::change_head;
 
 // A prepared keeper becomes active: majorities of both racks stand behind its roll. It writes no bytes, so that of another table the answer is 2.
 #[unsafe(no_mangle)]
@@ -20,13 +20,10 @@ pub extern "C" fn mahqurith_activate(
     ensures { record { answer = result; head = h.new; rows = rows.now; area = [] }
         ≡ over_rows (λ k. activating k previous.now own.now bundle.now) h.old rows.now [] }
 {
-    rows_typed(rows);
-    if rows.len() != MOST {
-        return other_length(0, 0);
-    }
-    let mut table = [0u8; TABLE];
-    flat_in(rows, &mut table);
-    let left = activate_left(*h, &table, previous, own, bundle);
-    head_out(h, left);
-    left.answer
+    let call = Activate {
+        previous,
+        own,
+        bundle,
+    };
+    change_head(call, h, rows, &mut [])
 }

@@ -3,11 +3,10 @@ ghost use Rattle.std.specs.Prelude.{◌≡◌};
 ghost use Rattle.rules.specs.Finalise.{finalising};
 ghost use Rattle.table.specs.Held.{Held, over_rows};
 
-use crate::status::finalise_left;
-use leaving::FINALISE_SIZE;
-use rows::{MOST, TABLE};
+use crate::status::Finalise;
 use rules::{Answer, Head};
-use table::{Row, flat_in, head_out, other_length, rows_typed};
+use table::Row;
+use walks::change_head;
 
 // The statement and the roll, the first time with the next rack that is given; later the same again.
 #[unsafe(no_mangle)]
@@ -19,13 +18,5 @@ pub extern "C" fn mahqurith_finalise(
 ) -> Answer
     ensures { record { answer = result; head = h.new; rows = rows.now; area = area.new } ≡ over_rows (λ k. finalising k next.now) h.old rows.now area.old }
 {
-    rows_typed(rows);
-    if rows.len() != MOST {
-        return other_length(area.len(), FINALISE_SIZE);
-    }
-    let mut table = [0u8; TABLE];
-    flat_in(rows, &mut table);
-    let left = finalise_left(*h, &table, next, area);
-    head_out(h, left);
-    left.answer
+    change_head(Finalise { next }, h, rows, area)
 }

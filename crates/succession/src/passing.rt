@@ -4,11 +4,10 @@ ghost use Rattle.rules.specs.Initialise.{initialising};
 ghost use Rattle.rules.specs.Check.{checking};
 ghost use Rattle.table.specs.Held.{Held, over_rows};
 
-use crate::messages::{check_left, initialise_left};
-use rows::{MOST, TABLE};
+use crate::messages::{BytesToCheck, Initialise};
 use rules::{Answer, Head};
-use statement::HANDOVER_SIZE;
-use table::{Asked, Row, flat_in, head_out, other_length, rows_out, rows_typed};
+use table::{Asked, Row};
+use walks::{change_rows, look};
 
 // Initialise.
 #[unsafe(no_mangle)]
@@ -24,16 +23,13 @@ pub extern "C" fn mahqurith_initialise(
     ensures { record { answer = result; head = h.new; rows = rows.new; area = area.new }
         ≡ over_rows (λ k. initialising k asked.identity roll.now previous.now own.now) h.old rows.old area.old }
 {
-    rows_typed(rows);
-    if rows.len() != MOST {
-        return other_length(area.len(), HANDOVER_SIZE);
-    }
-    let mut table = [0u8; TABLE];
-    flat_in(rows, &mut table);
-    let left = initialise_left(*h, &mut table, asked, roll, previous, own, area);
-    head_out(h, left);
-    rows_out(rows, &table, left.from, left.to);
-    left.answer
+    let call = Initialise {
+        asked,
+        roll,
+        previous,
+        own,
+    };
+    change_rows(call, h, rows, area)
 }
 
 // Bytes to check.
@@ -50,11 +46,11 @@ pub extern "C" fn mahqurith_bytes_to_check(
     ensures { record { answer = result; head = h.now; rows = rows.now; area = area.new }
         ≡ over_rows (λ k. checking k previous.now own.now bundle.now asked.list asked.number) h.now rows.now area.old }
 {
-    rows_typed(rows);
-    if rows.len() != MOST {
-        return other_length(area.len(), HANDOVER_SIZE);
-    }
-    let mut table = [0u8; TABLE];
-    flat_in(rows, &mut table);
-    check_left(*h, &table, asked, previous, own, bundle, area)
+    let call = BytesToCheck {
+        asked,
+        previous,
+        own,
+        bundle,
+    };
+    look(call, h, rows, area)
 }

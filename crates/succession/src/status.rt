@@ -1,28 +1,58 @@
-// Finalise and Activate, over the flat bytes of the table, which both leave: only the head changes.
-ghost use Rattle.std.specs.Prelude.{[]};
-ghost use Rattle.rules.specs.Outcomes.{Lent, Outcome};
-ghost use Rattle.rules.specs.Finalise.{finalising};
+// Finalise and Activate, over the flat bytes of the table, which both leave: what each is asked, its rule and its core.
+ghost use Rattle.rules.specs.Finalise.{finalise_size, finalising};
 ghost use Rattle.rules.specs.Activate.{activating};
-ghost use Rattle.table.specs.Held.{Leaves};
+ghost use Rattle.walks.proofs.OtherTables.{finalising_other, activating_other};
 
+use leaving::FINALISE_SIZE;
 use rules::Head;
 use table::{Left, leave};
+use walks::ChangesHead;
 
-// Finalise; a repeat leaves the head.
-pub fn finalise_left(head: Head, table: &[u8], next: &[u8], area: &mut [u8]) -> Left
-    ensures { Leaves result (record { head = head; table = table.now; area = area.old }) table.now area.new
-        (finalising (record { head = head; table = table.now; area = area.old }) next.now) }
-{
-    let told = leaving::finalise(head, table, next, area);
-    let first = !told.answer.repeat;
-    leave(told, first, 0, 0)
+#[derive(Clone, Copy)]
+pub struct Finalise<'a> {
+    pub next: &'a [u8],
 }
 
-// Activate.
-pub fn activate_left(head: Head, table: &[u8], previous: &[u8], own: &[u8], bundle: &[u8]) -> Left
-    ensures { Leaves result (record { head = head; table = table.now; area = [] }) table.now []
-        (activating (record { head = head; table = table.now; area = [] }) previous.now own.now bundle.now) }
-{
-    let told = handover::activate(head, table, previous, own, bundle);
-    leave(told, true, 0, 0)
+impl<'a> ChangesHead for Finalise<'a> {
+    ghost rule = { λ call k. finalising k call.next.now };
+
+    ghost size = { finalise_size };
+
+    fn size(&self) -> usize {
+        FINALISE_SIZE
+    }
+
+    // A repeat leaves the head.
+    fn left(self, head: Head, table: &[u8], area: &mut [u8]) -> Left {
+        leave(leaving::finalise(head, table, self.next, area), 0..0)
+    }
+
+    ghost refuses = { λ call. finalising_other call.next.now };
+}
+
+// It needs no area, and leaves what it is lent of one.
+#[derive(Clone, Copy)]
+pub struct Activate<'a> {
+    pub previous: &'a [u8],
+    pub own: &'a [u8],
+    pub bundle: &'a [u8],
+}
+
+impl<'a> ChangesHead for Activate<'a> {
+    ghost rule = { λ call k. activating k call.previous.now call.own.now call.bundle.now };
+
+    ghost size = { 0 };
+
+    fn size(&self) -> usize {
+        0
+    }
+
+    fn left(self, head: Head, table: &[u8], _area: &mut [u8]) -> Left {
+        leave(
+            handover::activate(head, table, self.previous, self.own, self.bundle),
+            0..0,
+        )
+    }
+
+    ghost refuses = { λ call. activating_other call.previous.now call.own.now call.bundle.now };
 }

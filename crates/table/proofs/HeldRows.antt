@@ -7,6 +7,7 @@ use native.Mathlib.Omega.{arith}
 use borrow.Author.Tests.{eq-eqb, ne_eqb}
 use lib.ListN.{length}
 use lib.Dec.{eqb, leb, ltb}
+use Rattle.std.specs.Option.{unwrap_or}
 use Rattle.refusals.specs.{area_too_short, record_not_sound}
 use Rattle.refusals.specs.Order.{Test, ◌⇒◌, first}
 use Rattle.rows.specs.Sizes.{most_rows, row_bytes, table_bytes}
@@ -83,21 +84,21 @@ pub leaves_held :
     → Leaves l (record { head = head; table = flattened rows; area = area }) table after o
     → ◌≡◌ {A = Held} (record {
       answer = l.answer;
-      head = cond l.changed l.head head;
-      rows = rows_put l.from l.to rows (rows_of most_rows table);
+      head = unwrap_or l.head head;
+      rows = rows_put l.rows.start l.rows.end rows (rows_of most_rows table);
       area = after;
     }) (as_rows o)
 unfolding Leaves as_rows
 leaves_held l head rows area table after o ts e p =
     let same : rows_of most_rows (flattened rows) ≡ rows = ap (λ (n : ℕ). rows_of n (flattened rows)) (sym e) ∙ rows-flattened ts in
-    ap (λ (g : Head). record { answer = l.answer; head = g; rows = rows_put l.from l.to rows (rows_of most_rows table); area = after }) p.1
-    ∙ ap (λ (rs : List Row). record { answer = l.answer; head = l.head; rows = rs; area = after })
-    (ap (λ (rs : List Row). rows_put l.from l.to rs (rows_of most_rows table)) (sym same) ∙ p.4)
+    ap (λ (rs : List Row). record { answer = l.answer; head = unwrap_or l.head head; rows = rs; area = after })
+    (ap (λ (rs : List Row). rows_put l.rows.start l.rows.end rs (rows_of most_rows table)) (sym same) ∙ p.3)
     ∙ ap as_rows p.0
 
-pub leaves_bounds : (l : Left) (before : Lent) (table area : List ℕ) (o : Outcome) → Leaves l before table area o → (l.from ≤ l.to) × (l.to ≤ most_rows)
+pub leaves_bounds :
+    (l : Left) (before : Lent) (table area : List ℕ) (o : Outcome) → Leaves l before table area o → (l.rows.start ≤ l.rows.end) × (l.rows.end ≤ most_rows)
 unfolding Leaves
-leaves_bounds l before table area o p = (p.2, p.3)
+leaves_bounds l before table area o p = (p.1, p.2)
 
 -- what a core answers that leaves the record is the outcome
 pub answers_held :
@@ -113,9 +114,8 @@ answers_held a head rows after o ts e p =
 pub leaves_rows :
     (l : Left) (head : Head) (rows : List Row) (area after : List ℕ) (o : Outcome) → AllTyped rows → length rows ≡ most_rows
     → Leaves l (record { head = head; table = flattened rows; area = area }) (flattened rows) after o
-    → ◌≡◌ {A = Held} (record { answer = l.answer; head = cond l.changed l.head head; rows = rows; area = after }) (as_rows o)
+    → ◌≡◌ {A = Held} (record { answer = l.answer; head = unwrap_or l.head head; rows = rows; area = after }) (as_rows o)
 unfolding Leaves as_rows
 leaves_rows l head rows area after o ts e p =
     let same : rows_of most_rows (flattened rows) ≡ rows = ap (λ (n : ℕ). rows_of n (flattened rows)) (sym e) ∙ rows-flattened ts in
-    ap (λ (g : Head). record { answer = l.answer; head = g; rows = rows; area = after }) p.1
-    ∙ ap (λ (rs : List Row). record { answer = l.answer; head = l.head; rows = rs; area = after }) (sym same) ∙ ap as_rows p.0
+    ap (λ (rs : List Row). record { answer = l.answer; head = unwrap_or l.head head; rows = rs; area = after }) (sym same) ∙ ap as_rows p.0

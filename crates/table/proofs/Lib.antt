@@ -2,6 +2,7 @@
 pub mod RowTrips
 pub mod RowTypes
 pub mod RowsPut
+pub mod Repeats
 pub mod Leaves
 pub mod HeldRows
 pub mod LeftRows

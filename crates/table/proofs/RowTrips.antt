@@ -140,6 +140,16 @@ typed_get i d nil h = absurd (not-suc-le-zero h)
 typed_get zero d (cons t ts) h = t
 typed_get (suc i) d (cons t ts) h = typed_get i d ts (le_of_suc-le-suc h)
 
+all_append : {rows more : List Row} → AllTyped rows → AllTyped more → AllTyped (rows ++ more)
+all_append nil us = us
+all_append (cons t ts) us = cons t (all_append ts us)
+
+-- one row more is typed
+pub typed_next :
+    (rows : List Row) (i : ℕ) (d : Row) → i < length rows → AllTyped (take i rows) → Typed (get_or rows i d) → AllTyped (take (i + 1) rows)
+typed_next rows i d h ts t =
+    subst AllTyped (sym (ap (λ (n : ℕ). take n rows) (add-one i) ∙ take-suc rows i d h)) (all_append ts (cons t nil))
+
 map_next : {A B : Type 0} (f : A → B) (l : List A) (x : A) → map f (l ++ (x ∷ [])) ≡ map f l ++ (f x ∷ [])
 map_next f [] x = refl
 map_next {B = B} f (y ∷ l) x = ap (λ (m : List B). f y ∷ m) (map_next f l x)

@@ -1,6 +1,6 @@
 -- Rows of which a part is taken from others: none, one after the other, all, and those in which two tables differ. Assumes nothing.
 use mathlib.Core.Path.{◌≡◌, refl, sym, ap, ap₂, ◌∙◌}
-use Prim.Native.Nat.{ℕ, suc, ◌+◌, ◌-◌, ◌*◌, ◌≤◌, ◌<◌}
+use Prim.Native.Nat.{ℕ, zero, suc, ◌+◌, ◌-◌, ◌*◌, ◌≤◌, ◌<◌}
 use native.Mathlib.Omega.{arith}
 use native.Mathlib.Numerals.{add-one}
 use mathlib.Core.List.{List, [], ◌∷◌, ◌++◌, append_assoc, append-nil, map}
@@ -120,18 +120,22 @@ rows_get n s i d h =
     ap (λ (l : List Row). get_or l i d) (cut n s i (omega arith) ∙ ap (λ (k : ℕ). rows_of i s ++ rows_of k t) e)
     ∙ get_or_at (rows_of i s) (row_cut (take row_bytes t)) (rows_of (n - i - 1) (drop row_bytes t)) d i (rows_length i s)
 
-pub blank_get : (i : ℕ) (d : Row) → i < most_rows → get_or blank_rows i d ≡ row_cut (replicate row_bytes 0)
-unfolding blank_rows
-blank_get i d h =
-    let k : ℕ = row_bytes * i in
-    let e : table_bytes ≡ k + (table_bytes - k) = omega arith in
-    rows_get most_rows (replicate table_bytes 0) i d h
-    ∙ ap (λ (l : List ℕ). row_cut (take row_bytes l)) (ap (λ (m : ℕ). drop {A = ℕ} k (replicate m 0)) e ∙ drop-replicate k (table_bytes - k) 0)
-    ∙ ap row_cut (take-replicate row_bytes (table_bytes - k) 0 (omega arith))
+-- the rows of zeros, one by one
+zeros : (n : ℕ) → rows_of n (replicate (row_bytes * n) 0) ≡ replicate n (row_cut (replicate row_bytes 0))
+unfolding rows_of pieces
+zeros zero = refl
+zeros (suc n) =
+    let e : row_bytes * suc n ≡ row_bytes + row_bytes * n = omega arith in
+    ap₂ (λ (r : Row) (rows : List Row). r ∷ rows)
+    (ap (λ (m : ℕ). row_cut (take row_bytes (replicate m 0))) e
+    ∙ ap row_cut (take-replicate row_bytes (row_bytes + row_bytes * n) 0 (omega arith)))
+    (ap (λ (m : ℕ). rows_of n (drop row_bytes (replicate m 0))) e
+    ∙ ap (rows_of n) (drop-replicate row_bytes (row_bytes * n) 0)
+    ∙ zeros n)
 
-pub blank_length : length blank_rows ≡ most_rows
+pub blank_each : blank_rows ≡ replicate most_rows (row_cut (replicate row_bytes 0))
 unfolding blank_rows
-blank_length = rows_length most_rows (replicate table_bytes 0)
+blank_each = zeros most_rows
 
 -- two tables that differ in the rows from i to before j alone
 pub rows_between :

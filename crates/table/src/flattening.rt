@@ -5,7 +5,8 @@ ghost use Rattle.rows.specs.Sizes.{row_bytes, most_rows};
 ghost use Rattle.table.specs.Flat.{row_string, flattened, row_cut, rows_of};
 
 use crate::Row;
-use octets::{copy_at, number_at, put_number};
+use crate::lent::{flat_in, rows_out};
+use octets::{array_at, copy_at, number_at, put_number};
 use rows::{LABEL, MOST, ROW, TABLE, TAIL};
 
 // Puts a row's bytes in the place of row i.
@@ -14,10 +15,8 @@ pub fn put_row(bytes: &mut [u8], i: usize, row: Row)
     ensures { bytes.new ≡ put bytes.old (row_bytes * i) (row_string row) }
 {
     let at = ROW * i;
-    let label = row.label;
-    let tail = row.tail;
-    copy_at(bytes, at, &label);
-    copy_at(bytes, at + LABEL, &tail);
+    copy_at(bytes, at, &row.label);
+    copy_at(bytes, at + LABEL, &row.tail);
     put_number(bytes, at + LABEL + TAIL, row.height);
 }
 
@@ -26,12 +25,7 @@ pub fn flat(rows: [Row; MOST]) -> [u8; TABLE]
     ensures { result ≡ flattened rows }
 {
     let mut bytes = [0u8; TABLE];
-    let mut i = 0;
-    while i < MOST {
-        let row = rows[i];
-        put_row(&mut bytes, i, row);
-        i += 1;
-    }
+    flat_in(&rows, &mut bytes);
     bytes
 }
 
@@ -40,15 +34,10 @@ fn row_cut(bytes: &[u8]) -> Row
     requires { length bytes.now ≡ row_bytes }
     ensures { result ≡ row_cut bytes.now }
 {
-    let mut label = [0u8; LABEL];
-    let mut tail = [0u8; TAIL];
-    copy_at(&mut label, 0, &bytes[0..LABEL]);
-    copy_at(&mut tail, 0, &bytes[LABEL..LABEL + TAIL]);
-    let height = number_at(bytes, LABEL + TAIL);
     Row {
-        label,
-        tail,
-        height,
+        label: array_at(bytes, 0),
+        tail: array_at(bytes, LABEL),
+        height: number_at(bytes, LABEL + TAIL),
     }
 }
 
@@ -76,13 +65,7 @@ pub fn blank_row() -> Row
 pub fn rows_of(bytes: &[u8; TABLE]) -> [Row; MOST]
     ensures { result ≡ rows_of most_rows bytes.now }
 {
-    let first = row_at(bytes, 0);
-    let mut rows = [first; MOST];
-    let mut i = 0;
-    while i < MOST {
-        let row = row_at(bytes, i);
-        rows[i] = row;
-        i += 1;
-    }
+    let mut rows = [blank_row(); MOST];
+    rows_out(&mut rows, bytes, 0..MOST);
     rows
 }

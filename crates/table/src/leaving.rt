@@ -1,30 +1,56 @@
 // What a call leaves beside the table's bytes.
-ghost use Rattle.std.specs.Prelude.{◌≡◌};
-ghost use Rattle.table.specs.Held.{left_by};
+ghost use Rattle.std.specs.Prelude.{◌≡◌, ◌<◌, IfOk};
+ghost use Rattle.rows.specs.Sizes.{most_rows};
+ghost use Rattle.table.specs.Held.{left_refused, left_by, left_moved};
 
 use crate::Left;
-use rules::Told;
+use refusals::Refusal;
+use rules::{Answer, Done};
+use std::ops::Range;
 
-// After a refusal nothing has changed; otherwise the head may be another one, and the rows from one place to before another.
-pub fn leave(told: Told, changed: bool, from: usize, to: usize) -> Left
-    ensures { result ≡ left_by told changed from to }
-{
-    let answer = told.answer;
-    let head = told.head;
-    if answer.number != refusals::ACCEPTED {
-        return Left {
-            answer,
-            head,
-            changed: false,
-            from: 0,
-            to: 0,
-        };
+// After a refusal nothing has changed.
+impl From<Refusal> for Left {
+    ghost from_gives = { λ refusal left. left ≡ left_refused refusal };
+
+    fn from(refusal: Refusal) -> Left {
+        Left {
+            answer: Answer::from(refusal),
+            head: None,
+            rows: 0..0,
+        }
     }
-    Left {
-        answer,
-        head,
-        changed,
-        from,
-        to,
+}
+
+// Where a call tells what it did, the rows in these places have changed, and the head unless it is a repeat.
+pub fn leave(told: Result<Done, Refusal>, rows: Range<usize>) -> Left
+    ensures { result ≡ left_by told rows }
+{
+    match told {
+        Ok(done) => Left {
+            answer: Answer::from(told),
+            head: if done.repeat { None } else { Some(done.head) },
+            rows,
+        },
+        Err(refusal) => Left::from(refusal),
+    }
+}
+
+// Where it writes so many bytes and gives the place of a row, that row alone has changed.
+pub fn leave_moved(place: Result<usize, Refusal>, written: usize) -> Left
+    requires { IfOk place (λ i. i < most_rows) }
+    ensures { result ≡ left_moved written place }
+{
+    match place {
+        Ok(i) => Left {
+            answer: Answer {
+                number: refusals::ACCEPTED,
+                written,
+                height: 0,
+                repeat: false,
+            },
+            head: None,
+            rows: i..i + 1,
+        },
+        Err(refusal) => Left::from(refusal),
     }
 }

@@ -2,18 +2,17 @@
 #![tactic(auto)]
 
 mod flattening;
-mod heads;
 mod leaving;
 mod lent;
 mod other;
 
 pub use flattening::{flat, rows_of};
-pub use heads::head_out;
-pub use leaving::leave;
+pub use leaving::{leave, leave_moved};
 pub use lent::{flat_in, rows_clear, rows_out, rows_typed};
 pub use other::other_length;
 use rows::{LABEL, TAIL};
 use rules::{Answer, Head};
+use std::ops::Range;
 
 // A ledger's row.
 #[repr(C)]
@@ -24,14 +23,12 @@ pub struct Row {
     pub height: u64,
 }
 
-// What a call leaves beside the table's bytes: its answer, the head, whether that is another one, and from which row to before which one the table is.
-#[derive(Clone, Copy)]
+// What a call leaves beside the table's bytes: its answer, the head where that is another one, and the rows that are others.
+#[derive(Drop)]
 pub struct Left {
     pub answer: Answer,
-    pub head: Head,
-    pub changed: bool,
-    pub from: usize,
-    pub to: usize,
+    pub head: Option<Head>,
+    pub rows: Range<usize>,
 }
 
 // What a keeper is asked, at fixed sizes; each call reads what it needs.

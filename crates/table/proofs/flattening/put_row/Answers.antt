@@ -11,12 +11,6 @@ use Rattle.table.specs.Flat.{row_string}
 use Rattle.table.proofs.RowTypes.{typed_row}
 use Rattle.table.proofs.flattening.put_row.Goals as goal
 
-pub copy_at-requires : goal.copy_at-requires
-copy_at-requires c = omega (arith, (typed_row c.args.row _ c.well_formed.1.1.0).label)
-
-pub copy_at-requires-2 : goal.copy_at-requires-2
-copy_at-requires-2 c = omega (arith, (typed_row c.args.row _ c.well_formed.1.1.0).tail)
-
 pub returns : goal.returns
 unfolding row_string
 returns c =

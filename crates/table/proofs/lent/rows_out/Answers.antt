@@ -12,7 +12,7 @@ pub loop-i-init : goal.loop-i-init
 loop-i-init c =
     let old = c.args.rows.now in
     let n : length old ≡ most_rows = c.requires.0 in
-    (omega arith, c.requires.2, put_start old (rows_of most_rows c.args.bytes.now) c.args.from (omega arith))
+    put_start old (rows_of most_rows c.args.bytes.now) c.args.places.start (omega arith)
 
 pub loop-i-preserved : goal.loop-i-preserved
 loop-i-preserved c =
@@ -21,9 +21,6 @@ loop-i-preserved c =
     let new = rows_of most_rows c.args.bytes.now in
     let n : length old ≡ most_rows = c.requires.0 in
     let m : length new ≡ most_rows = rows_length most_rows c.args.bytes.now in
-    let r = c.row_at-row.ensures ∙ sym (rows_get most_rows c.args.bytes.now l.i no_row (omega arith)) in (
-      omega arith,
-      omega arith,
-      ap₂ (λ (rows : List Row) (row : Row). set rows l.i row) l.invariant.2 r
-          ∙ put_next old new (m ∙ sym n) c.args.from l.i l.invariant.0 no_row (omega arith),
-    )
+    let r = c.row_at.ensures ∙ sym (rows_get most_rows c.args.bytes.now l.i no_row (omega arith)) in
+    ap₂ (λ (rows : List Row) (row : Row). set rows l.i row) l.invariant r
+    ∙ put_next old new (m ∙ sym n) c.args.places.start l.i (omega arith) no_row (omega arith)
