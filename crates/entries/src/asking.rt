@@ -22,7 +22,8 @@ fn are_too_few(previous: &[u8], own: &[u8], s: &[u8]) -> bool
 
 // Tests what stands behind a bundle.
 pub fn check_attended(previous: &[u8], own: &[u8], s: &[u8]) -> Result<(), Refusal>
-    requires { (holds rack_layout previous.now ≡ true) × (holds rack_layout own.now ≡ true) × (list_at s.now 0 ≤ length s.now) × (length s.now ≤ longest_bundle) }
+    requires { (holds rack_layout previous.now ≡ true) × (holds rack_layout own.now ≡ true)
+        × (list_at s.now 0 ≤ length s.now) × (length s.now ≤ longest_bundle) }
     ensures { answer_of result ≡ first (attended_tests previous.now own.now s.now) }
 {
     if are_too_few(previous, own, s) {

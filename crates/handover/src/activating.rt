@@ -16,7 +16,9 @@ use rules::{Done, Head};
 // Tests what the bundle shows.
 fn check_shown(k: Handover) -> Result<(), Refusal>
     requires { Shown k.head k.table.now k.previous.now k.own.now k.bundle.now }
-    ensures { answer_of result ≡ first (handover_tests (record { head = k.entry.head; table = k.entry.table.now; area = [] }) k.entry.previous.now k.entry.own.now k.entry.bundle.now) }
+    ensures { answer_of result
+        ≡ first (handover_tests (record { head = k.entry.head; table = k.entry.table.now; area = [] })
+        k.entry.previous.now k.entry.own.now k.entry.bundle.now) }
 {
     check_attended(k.previous, k.own, k.bundle)?;
     if !derived(k.table, usize::from(k.head.count), k.bundle) {
@@ -26,7 +28,9 @@ fn check_shown(k: Handover) -> Result<(), Refusal>
 }
 
 fn check_activate(k: Handover) -> Result<(), Refusal>
-    ensures { answer_of result ≡ activate_refusal (record { head = k.entry.head; table = k.entry.table.now; area = [] }) k.entry.previous.now k.entry.own.now k.entry.bundle.now }
+    ensures { answer_of result
+        ≡ activate_refusal (record { head = k.entry.head; table = k.entry.table.now; area = [] })
+        k.entry.previous.now k.entry.own.now k.entry.bundle.now }
 {
     k.check(&[], 0)?;
     check_shown(k)

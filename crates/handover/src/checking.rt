@@ -30,7 +30,8 @@ fn entries_of(s: &[u8], list: EntryList) -> usize
 // Tests what is asked, and gives the list of the number, which has the entry.
 fn check_entry(k: Handover, area: &[u8], list: u8, entry: u64) -> Result<EntryList, Refusal>
     ensures answer { answer_of result
-        ≡ check_refusal (record { head = k.entry.head; table = k.entry.table.now; area = area.now }) k.entry.previous.now k.entry.own.now k.entry.bundle.now list entry }
+        ≡ check_refusal (record { head = k.entry.head; table = k.entry.table.now; area = area.now })
+        k.entry.previous.now k.entry.own.now k.entry.bundle.now list entry }
     ensures which { IfOk result (λ which. list_number which ≡ list) }
 {
     k.check(area, HANDOVER_SIZE)?;
@@ -84,7 +85,8 @@ pub fn bytes_to_check(
     entry: u64,
     area: &mut [u8],
 ) -> Result<Done, Refusal>
-    ensures { outcome (told head result) table.now area.new ≡ checking (record { head = head; table = table.now; area = area.old }) previous.now own.now s.now list entry }
+    ensures { outcome (told head result) table.now area.new
+        ≡ checking (record { head = head; table = table.now; area = area.old }) previous.now own.now s.now list entry }
 {
     let k = Handover {
         head,

@@ -22,7 +22,8 @@ fn old_entry(s: &[u8], number: u64) -> Option<usize>
 // The new entry of this number.
 fn new_entry(s: &[u8], number: u64) -> Option<usize>
     requires { length s.now ≤ longest_bundle }
-    ensures { result ≡ then_some (ltb number (new_count s.now) && leb (new_at s.now + (1 + 2 * (number + 1))) (length s.now)) (new_at s.now + (1 + 2 * number)) }
+    ensures { result ≡ then_some (ltb number (new_count s.now) && leb (new_at s.now + (1 + 2 * (number + 1))) (length s.now))
+        (new_at s.now + (1 + 2 * number)) }
 {
     let at = old_end(s, usize::from(*s.first()?))?;
     if u64::from(*s.get(at)?) <= number {

@@ -50,6 +50,3 @@ returns-clause-answer c =
     let k : Lent = record { head = a.k.head; table = a.k.table.now; area = a.area.now } in
     let few = counted (goal.at.returns-clause-answer c).After-entries_of in
     sym (entry_passes k a.k.previous.now a.k.own.now a.k.bundle.now a.list a.entry (sym c.in_ok-check.ensures) (omega (arith, few, c.if-entries_of-entry.false)))
-
-pub returns-clause-which : goal.returns-clause-which
-returns-clause-which c = sym (numbered_is c.args.list _ c.in_ok-which.ensures)

@@ -35,9 +35,6 @@ loop-i-init c = record {
   placed = c.first_list-at.ensures ∙ ap (list_at c.args.s.now) (sym (mul-zero c.args.rows));
 }
 
-pub slice_bounds-roll_derived-end : goal.slice_bounds-roll_derived-end
-slice_bounds-roll_derived-end c = sym c.loop-i.invariant.long
-
 pub roll_derived-requires : goal.roll_derived-requires
 roll_derived-requires c =
     let s = c.args.s.now in
@@ -71,12 +68,6 @@ loop-i-preserved c =
           ∙ sym (some_more (λ j. keeps ours (roll_of s j) s j r) l.i);
       placed = lead.1 ∙ ap (list_at s) next;
     }
-
-pub slice_bounds-all_kept-end : goal.slice_bounds-all_kept-end
-slice_bounds-all_kept-end c = sym c.loop-i.invariant.long
-
-pub all_kept-requires : goal.all_kept-requires
-all_kept-requires c = omega (arith, c.requires.0.few, c.loop-i.invariant.long)
 
 pub returns : goal.returns
 unfolding kept_by_some

@@ -145,9 +145,6 @@ returns-then-not-is_led_to c =
     (sym (found (goal.at.returns-then-not-is_led_to c).After-is_led_to) ∙ c.if-not-is_led_to.true) in
     (sym (led_by (ours t) s a.i false fails), λ e. absurd (true≢false (sym e ∙ fails)))
 
-pub bounds-kept-r : goal.bounds-kept-r
-bounds-kept-r c = within (turn (goal.at.bounds-kept-r c).After-is_led_to)
-
 pub is_kept-requires : goal.is_kept-requires
 is_kept-requires c = lies (turn (goal.at.is_kept-requires c).After-is_led_to)
 

@@ -24,9 +24,6 @@ returns-then-not-is_rack c =
       | else-is_rack w ↦ rw (sym c.is_rack.ensures ∙ w.if-is_rack.false)
     ]
 
-pub racks_differ-requires : goal.racks_differ-requires
-racks_differ-requires c = racks c
-
 pub returns-then-racks_differ : goal.returns-then-racks_differ
 unfolding first rack_tests
 returns-then-racks_differ c =
