@@ -18,7 +18,8 @@ fn old_entry_fits(s: &[u8], at: usize, n: usize, low: usize) -> bool
         && (1..=MOST_BLOCKS).contains(&s[at + 2])
 }
 
-// Whether the old entries keep the rules for a rack of n, and end before the string does.
+// Whether the old entries keep the rules for a rack of n, and end before the string does. The loop stays a walk: where the next entry begins is known once
+// this one fits.
 fn old_entries_fit(s: &[u8], n: usize) -> bool
     requires { (0 < length s.now) × (length s.now ≤ longest_bundle) }
     ensures { result ≡ olds_end n s.now }

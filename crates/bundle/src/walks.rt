@@ -1,4 +1,5 @@
-// Where the parts of a bundle stand: each place is found from the one before it.
+// Where the parts of a bundle stand: each place is found from the one before it. How far a string is known to reach stays in the clauses: the walks serve
+// strings that are tested part by part, and need another fact each.
 ghost use Rattle.std.specs.Prelude.{◌≡◌, ◌+◌, ◌*◌, ◌≤◌, ◌<◌, leb, length};
 ghost use Rattle.std.specs.Bool.{then_some};
 ghost use Rattle.roll.specs.Blocks.{block_bytes};
@@ -93,7 +94,7 @@ pub fn first_list(s: &[u8]) -> usize
     at + (1 + PAIR * count)
 }
 
-// Where list j of entry digests begins, or the lists end.
+// Where list j of entry digests begins, or the lists end. The place stays beside the loop: the next one is read at it.
 pub fn list_at(s: &[u8], j: usize) -> usize
     requires { (list_at s.now j ≤ length s.now) × (length s.now ≤ longest_bundle) }
     ensures { result ≡ list_at s.now j }

@@ -74,7 +74,7 @@ fn spoken(head: Head, table: &[u8], s: &[u8], list: EntryList, i: usize) -> Stat
     }
 }
 
-// The statement that the marks of an entry of a list speak of.
+// The statement that the marks of an entry of a list speak of. The parameters stay apart: so does the call for C have them.
 pub fn bytes_to_check(
     head: Head,
     table: &[u8],
