@@ -14,7 +14,7 @@ use Rattle.refusals.specs.Refused.{refusal_number}
 use Rattle.refusals.proofs.Answered.{number_refuses}
 use Rattle.refusals.proofs.Orders.{numbered, stops, goes_on, lacks, lacking}
 use Rattle.rules.specs.declared.Answer.{Answer}
-use Rattle.rules.specs.declared.Told.{Told}
+use Rattle.rules.specs.Told.{Told}
 use Rattle.rules.specs.Outcomes.{Lent, Outcome, outcome, refusing, told_place, unless, lending, readiness}
 use Rattle.rules.specs.Rows.{present_height}
 use Rattle.rules.specs.Append.{append_refusal}

@@ -3,7 +3,7 @@ use Rattle.std.specs.Prelude.{not, List, [], ◌∷◌, ℕ, ◌+◌, eqb}
 use Rattle.refusals.specs.{out_of_order, height_at_top}
 use Rattle.refusals.specs.Order.{Test, ◌⇒◌}
 use Rattle.rows.specs.Sizes.{top_height}
-use Rattle.rules.specs.declared.Told.{Told}
+use Rattle.rules.specs.Told.{Told}
 use Rattle.rules.specs.Outcomes.{Lent, refusing}
 use Rattle.rules.specs.Rows.{present_height}
 use Rattle.rules.specs.Append.{append_refusal}

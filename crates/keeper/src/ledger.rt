@@ -7,14 +7,13 @@ ghost use Rattle.rules.specs.AppendMany.{appending_many};
 ghost use Rattle.rules.specs.Read.{reading, appending_and_reading};
 ghost use Rattle.walks.proofs.OtherTables.{making_other, appending_other, appending_many_other, reading_other, both_other};
 
+use reading::BOTH;
 use refusals::Refusal;
 use rows::MOST;
 use rules::{Done, Head};
 use statement::{READING_SIZE, RECEIPT_SIZE};
 use table::{Asked, Left, leave, leave_moved};
 use walks::{ChangesRows, Looks};
-
-const BOTH: usize = RECEIPT_SIZE + READING_SIZE;
 
 #[derive(Clone, Copy)]
 pub struct New {

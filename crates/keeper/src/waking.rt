@@ -1,28 +1,12 @@
 // Wake, on a head and a table that the caller lends.
 ghost use Rattle.std.specs.Prelude.{◌≡◌, []};
-ghost use Rattle.rules.specs.Wake.{waking, woken};
+ghost use Rattle.rules.specs.Wake.{waking};
 ghost use Rattle.table.specs.Held.{Held, over_rows};
 
-use record::BLANK;
+use record::woken;
 use rows::MOST;
 use rules::{Answer, Head};
 use table::{Asked, Row, other_length, rows_clear, rows_typed};
-
-// The head of a blank record.
-fn woken(key: [u8; 32]) -> Head
-    ensures { result ≡ woken key }
-{
-    let zeros = [0u8; 32];
-    Head {
-        status: BLANK,
-        count: 0,
-        key,
-        identity: zeros,
-        own: zeros,
-        previous: zeros,
-        next: zeros,
-    }
-}
 
 // The record becomes blank, with this key, whatever it was.
 #[unsafe(no_mangle)]

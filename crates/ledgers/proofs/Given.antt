@@ -10,7 +10,7 @@ use Rattle.statement.specs.Kinds.{size}
 use Rattle.statement.specs.Shape.{Arrays}
 use Rattle.statement.specs.Contents.{statement_fits, statement_written}
 use Rattle.statement.proofs.Records.{fits_kind, written_length}
-use Rattle.rules.specs.declared.Told.{Told}
+use Rattle.rules.specs.Told.{Told}
 use Rattle.rules.specs.Outcomes.{Lent, Outcome, outcome, refusing, refused, unless}
 
 -- the bytes of a statement that was made and fits

@@ -9,4 +9,4 @@ mod waking;
 pub use giving::give;
 pub use ready::{check_lent, check_ready};
 pub use soundness::{ACTIVE, BLANK, FINALISED, PREPARED, is_sound};
-pub use waking::wake;
+pub use waking::{wake, woken};

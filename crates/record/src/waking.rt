@@ -7,7 +7,8 @@ use crate::soundness::BLANK;
 use refusals::Refusal;
 use rules::{Done, Head};
 
-fn blank_head(key: [u8; 32]) -> Head
+// The head of a blank record.
+pub fn woken(key: [u8; 32]) -> Head
     ensures { result ≡ woken key }
 {
     let zeros = [0u8; 32];
@@ -33,6 +34,6 @@ pub fn wake(head: Head, table: &mut [u8], key: [u8; 32]) -> Result<Done, Refusal
     Ok(Done {
         written: 0,
         repeat: false,
-        head: blank_head(key),
+        head: woken(key),
     })
 }

@@ -24,7 +24,7 @@ use Rattle.rows.proofs.Searches.{found_is}
 use Rattle.statement.specs.Kinds.{receipt_size}
 use Rattle.rules.specs.Record.{active}
 use Rattle.rules.specs.declared.Answer.{Answer}
-use Rattle.rules.specs.declared.Told.{Told}
+use Rattle.rules.specs.Told.{Told}
 use Rattle.rules.specs.Outcomes.{Lent, refusing, told_place, lending, readiness}
 use Rattle.rules.proofs.Tolds.{refusing_alone}
 use Rattle.rules.specs.Rows.{is_absent, row_number, sought, present_tail, present_height}

@@ -4,7 +4,7 @@ use Rattle.refusals.specs.{not_active, list_of_wrong_length, out_of_order, heigh
 use Rattle.refusals.specs.Order.{Test, ◌⇒◌}
 use Rattle.rows.specs.Sizes.{top_height}
 use Rattle.statement.specs.Kinds.{receipt_size}
-use Rattle.rules.specs.declared.Told.{Told}
+use Rattle.rules.specs.Told.{Told}
 use Rattle.rules.specs.Record.{active}
 use Rattle.rules.specs.Outcomes.{Lent, refusing, readiness}
 use Rattle.rules.specs.Rows.{present_height}

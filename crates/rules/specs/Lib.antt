@@ -1,6 +1,7 @@
 -- The keeper's rules: its record, what a call is lent and leaves, the handover bundle, and each call from what it is lent to its whole outcome, in the
 -- order of 01; 02's call behind the one that it goes with.
 pub mod Record
+pub mod Told
 pub mod Outcomes
 pub mod Table
 pub mod Rows

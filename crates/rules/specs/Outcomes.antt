@@ -8,7 +8,7 @@ use Rattle.octets.specs.Strings.{put}
 use Rattle.rules.specs.declared.Head.{Head}
 use Rattle.rules.specs.declared.Answer.{Answer}
 use Rattle.rules.specs.declared.Done.{Done}
-use Rattle.rules.specs.declared.Told.{Told}
+use Rattle.rules.specs.Told.{Told}
 use Rattle.rules.specs.Record.{sound}
 
 -- the record and the output area

@@ -33,11 +33,3 @@ pub struct Done {
     pub repeat: bool,
     pub head: Head,
 }
-
-// The answer, and the head as the call leaves it.
-// TRANSITION: becomes a record of specs/ when no call returns it any more.
-#[derive(Clone, Copy)]
-pub struct Told {
-    pub answer: Answer,
-    pub head: Head,
-}

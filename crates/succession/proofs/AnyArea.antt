@@ -11,7 +11,7 @@ use Rattle.octets.specs.Strings.{put}
 use Rattle.refusals.specs.{accepted}
 use Rattle.refusals.specs.Order.{first}
 use Rattle.rules.specs.declared.Head.{Head}
-use Rattle.rules.specs.declared.Told.{Told}
+use Rattle.rules.specs.Told.{Told}
 use Rattle.rules.specs.Outcomes.{Lent, Outcome, outcome, lending, readiness, refused, given, unless}
 use Rattle.rules.specs.Activate.{acting, bundle_tests, handover_tests, activating}
 

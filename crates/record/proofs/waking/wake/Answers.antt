@@ -22,4 +22,4 @@ unfolding first put waking
 returns c =
     let cleared : c.fill.new.self ≡ replicate (length c.args.table.now) 0 = grind (arith, common_steps) in
     rw (eq-eqb _ _ c.if-table-ne-TABLE.false)
-    (done_told _ _ 0 0 [] _ _ _ _ refl (ap (λ (h : Head). record { written = 0; repeat = false; head = h }) c.blank_head.ensures) cleared refl)
+    (done_told _ _ 0 0 [] _ _ _ _ refl (ap (λ (h : Head). record { written = 0; repeat = false; head = h }) c.woken.ensures) cleared refl)

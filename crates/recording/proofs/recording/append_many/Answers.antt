@@ -4,7 +4,7 @@ use Rattle.std.specs.Prelude.{Result, Ok, Err}
 use Rattle.refusals.specs.declared.Refusal.{Refusal}
 use Rattle.refusals.proofs.Answered.{number_refuses}
 use Rattle.statement.specs.Kinds.{receipt_size}
-use Rattle.rules.specs.declared.Told.{Told}
+use Rattle.rules.specs.Told.{Told}
 use Rattle.rules.specs.Outcomes.{Lent, outcome, told_place}
 use Rattle.rules.specs.AppendMany.{append_many_refusal, appending_many}
 use Rattle.rules.proofs.Tolds.{handed_on, done_place}

@@ -5,7 +5,7 @@ use borrow.Author.Tests.{lt-ltb, le-ltb}
 use Rattle.std.specs.Prelude.{Ok}
 use Rattle.refusals.specs.Order.{first}
 use Rattle.rows.specs.Search.{find}
-use Rattle.rules.specs.declared.Told.{Told}
+use Rattle.rules.specs.Told.{Told}
 use Rattle.rules.specs.Outcomes.{Lent, refusing, told_place}
 use Rattle.rules.specs.Rows.{sought, row_number}
 use Rattle.rules.specs.AppendMany.{entries}
