@@ -19,7 +19,8 @@ fn is_askable(kind: u8) -> bool
     NEW <= kind && kind <= READ
 }
 
-// Whether a statement is of the identity and the ledger asked for, and of a rack with this digest.
+// Whether a statement is of the identity and the ledger asked for, and of a rack with this digest. `is_same` stays: it states `same`, the rule's word, and `==`
+// is no plainer.
 fn is_of(v: Statement, question: Question, digest: [u8; DIGEST]) -> bool
     ensures { result ≡ (same v.identity question.identity && same v.own digest && same v.label question.label) }
 {

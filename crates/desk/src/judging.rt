@@ -21,7 +21,7 @@ fn is_signers(n: usize, signers: &[u8]) -> bool
 }
 
 // Tests in the order of the refusals.
-#[tactic(auto, using(rack::proofs::RackTrips::rack_length), unfolding(crate::specs::Verdict::verdict_refusal, refusals::specs::Order::first, rack::specs::Racks::rack_cut))]
+#[tactic(auto, unfolding(crate::specs::Verdict::verdict_refusal, refusals::specs::Order::first, rack::specs::Racks::rack_cut))]
 fn check_verdict(
     question: Question,
     digested: Digested,

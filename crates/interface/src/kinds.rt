@@ -34,7 +34,7 @@ pub fn nonce_in(kind: Kind) -> [u8; NONCE]
     }
 }
 
-// The kind of a number, with a height and a nonce where it has one.
+// The kind of a number, with a height and a nonce where it has one. It stays no `TryFrom`: a number that names none is Blank, as `kind_named` of specs/ says.
 #[tactic(auto, unfolding(crate::specs::Contents::kind_named))]
 fn kind_named(number: u8, height: u64, nonce: &[u8; NONCE]) -> Kind
     ensures { result ≡ kind_named number height nonce.now }

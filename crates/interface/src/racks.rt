@@ -7,6 +7,7 @@ use crate::{Key, Rack, RackRead};
 use rack::{KEY_BYTES, Keys, MOST};
 use refusals::Written;
 
+// This and the next stay functions: between arrays there is no `From` of this crate's own.
 fn keys_of(places: [Key; MOST]) -> Keys
     ensures { result ≡ keys_of places }
 {

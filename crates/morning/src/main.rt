@@ -41,6 +41,7 @@ const TOLD_AFTER: u64 = 1024;
 const WRONG: u8 = 2;
 
 // Reads until the piece is full, the input ends or a read fails, and returns how many bytes it put at the start of the piece.
+// The `while` stays: each read says by how much it goes on.
 fn read_full<R: Read>(input: &mut R, piece: &mut [u8]) -> usize
     ensures within { result ≤ length piece.new }
     ensures size { length piece.new ≡ length piece.old }

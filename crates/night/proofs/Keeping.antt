@@ -14,13 +14,13 @@ use Rattle.rack.proofs.RackTrips.{rack_length}
 use Rattle.statement.specs.Cut.{no_label}
 use Rattle.checks.specs.Check.{block_at}
 use Rattle.desk.specs.declared.Finding.{Finding}
-use Rattle.receipts.specs.Block.{rack_type, receipt_type, rack_place, key_count, rack_in, label_in, sort}
+use Rattle.receipts.specs.Block.{rack_type, receipt_type, rack_place, key_count, label_in, sort}
 use Rattle.receipts.specs.Judged.{finding}
 use Rattle.receipts.proofs.Sorts.{is_rack_sort, rack_keys}
 use Rattle.night.specs.declared.Line.{Line}
 use Rattle.night.specs.declared.Night.{Night}
 use Rattle.night.specs.Lines.{most_labels, new_line, no_line, place, line_after, counted_in}
-use Rattle.night.specs.Pass.{nearest_rack, rack_read, counted, with_rack, with_over, with_damaged, with_line, with_label, with_receipt, step, start, passed, Kept}
+use Rattle.night.specs.Pass.{nearest_rack, rack_read, with_rack, with_over, with_damaged, with_line, with_label, with_receipt, step, start, passed, Kept}
 use Rattle.night.proofs.Lined.{both, place_within, counted_at, counted_set, counted_more, line_after_one, new_line_none}
 
 module _ (n : Night) (k : Kept n) where
@@ -37,15 +37,15 @@ module _ (n : Night) (k : Kept n) where
       omega (arith, k.sum)
 
   kept_over : Kept (with_over n)
-  unfolding with_over counted
+  unfolding with_over
   kept_over = record { few = k.few; places = k.places; room = k.room; digested = k.digested; sum = omega (arith, k.sum) }
 
   kept_damaged : Kept (with_damaged n)
-  unfolding with_damaged counted
+  unfolding with_damaged
   kept_damaged = record { few = k.few; places = k.places; room = k.room; digested = k.digested; sum = omega (arith, k.sum) }
 
   kept_rack : (b : List ℕ) → key_count b ≤ most → Kept (with_rack n b)
-  unfolding with_rack counted rack_read nearest_rack rack_in
+  unfolding with_rack rack_read
   kept_rack b h =
       record {
         few = k.few;
@@ -57,7 +57,6 @@ module _ (n : Night) (k : Kept n) where
 
   -- a line counts one receipt more
   kept_known : (i : ℕ) (l : Line) → i < n.known → both l ≡ both (get_or n.lines i no_line) + 1 → Kept (with_line n i n.known l)
-  unfolding with_line counted
   kept_known i l h e =
       let ls : List Line = take n.known n.lines in
       let g : get_or ls i no_line ≡ get_or n.lines i no_line = get_or-take n.known n.lines i no_line h in
@@ -73,7 +72,6 @@ module _ (n : Night) (k : Kept n) where
       }
 
   kept_new : (l : Line) → n.known < most_labels → both l ≡ 1 → Kept (with_line n n.known (n.known + 1) l)
-  unfolding with_line counted
   kept_new l h e =
       let ls : List Line = take n.known n.lines in
       let u : counted_in (take (n.known + 1) (set n.lines n.known l)) ≡ counted_in ls + both l =
@@ -129,7 +127,7 @@ module _ (n : Night) (k : Kept n) where
 
 -- a block more is one block more
 pub step-blocks : (n : Night) (b : List ℕ) → (step n b).totals.blocks ≡ n.totals.blocks + 1
-unfolding step with_rack with_receipt with_damaged with_label with_over with_line counted
+unfolding step with_rack with_receipt with_damaged with_label with_over
 step-blocks n b = go (eqb (sort b) rack_type) (eqb (sort b) receipt_type) (ltb (place (label_in b) (take n.known n.lines)) most_labels) (ltb (place (label_in b) (take n.known n.lines)) n.known)
   where
     go : (r s t u : Bool) → (cond r (with_rack n b) (cond s (cond t (cond u (with_line n (place (label_in b) (take n.known n.lines)) n.known
@@ -143,7 +141,7 @@ step-blocks n b = go (eqb (sort b) rack_type) (eqb (sort b) receipt_type) (ltb (
     go false false t u = refl
 
 pub kept_start : Kept start
-unfolding start nearest_rack counted_in
+unfolding start counted_in
 kept_start = record { few = omega arith; places = length-replicate most_labels (new_line no_label); room = omega arith; digested = λ held. absurd (omega (arith, rack_length [] held)); sum = refl }
 
 -- the pass keeps it

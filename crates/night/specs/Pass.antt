@@ -16,7 +16,7 @@ use Rattle.night.specs.declared.Night.{Night}
 use Rattle.night.specs.Lines.{most_labels, new_line, no_line, place, line_after, counted_in}
 
 -- "the nearest undamaged rack before"; empty where there is none
-unfoldable pub nearest_rack : Nearest → List ℕ
+abbrev pub nearest_rack : Nearest → List ℕ
 nearest_rack r = take r.size r.rack
 
 -- the rack of a rack's block, with its digest; its place has room for the longest rack
@@ -24,7 +24,7 @@ unfoldable pub rack_read : List ℕ → Nearest
 rack_read b = record { rack = take (rack_bytes most) (drop rack_place b); size = rack_bytes (key_count b); digest = rack_digest (rack_in b) }
 
 -- one block more, of which so many racks, over and damaged
-unfoldable pub counted : Totals → ℕ → ℕ → ℕ → Totals
+abbrev pub counted : Totals → ℕ → ℕ → ℕ → Totals
 counted t racks over damaged =
     record { blocks = t.blocks + 1; racks = t.racks + racks; over = t.over + over; damaged = t.damaged + damaged }
 
@@ -41,7 +41,7 @@ unfoldable pub with_damaged : Night → Night
 with_damaged n = record { totals = counted n.totals 0 0 1; known = n.known; lines = n.lines; nearest = n.nearest }
 
 -- the line at place i, which is the last of the first so many
-unfoldable pub with_line : Night → ℕ → ℕ → Line → Night
+abbrev pub with_line : Night → ℕ → ℕ → Line → Night
 with_line n i known l = record { totals = counted n.totals 0 0 0; known = known; lines = set n.lines i l; nearest = n.nearest }
 
 -- a receipt of a label whose line stands at i, or comes to stand there

@@ -34,8 +34,8 @@ pub struct Totals {
     pub damaged: u64,
 }
 
-// The nearest undamaged rack before, by its size and its digest; the size is 0 where there is none. The buffer and its size stay two fields, and no rack is
-// size 0 and not None: so `Nearest`, `nearest_rack` and `start` of specs/ speak of them.
+// The nearest undamaged rack before, by its size and its digest; the size is 0 where there is none. The buffer and its size stay two fields, and size 0
+// no Option: `nearest_rack` and `start` of specs/ speak of them.
 #[derive(Clone, Copy)]
 pub struct Nearest {
     pub rack: [u8; LONGEST_RACK],
@@ -43,8 +43,8 @@ pub struct Nearest {
     pub digest: [u8; DIGEST],
 }
 
-// A night as far as its blocks are counted: the first so many lines are those of the known labels. The count and the lines stay two fields: `Kept` and `printed`
-// of specs/ speak of them.
+// A night as far as its blocks are counted: the first so many lines are those of the known labels. The count and the lines stay two fields:
+// `Kept` and `printed` of specs/ speak of them.
 #[derive(Clone, Copy)]
 pub struct Night {
     pub totals: Totals,

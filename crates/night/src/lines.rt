@@ -22,7 +22,7 @@ impl Line {
         }
     }
 
-    // The line after one receipt more.
+    // The line after one receipt more. That the finding is C's number stays: `Finding` is a struct of the C interface.
     #[tactic(auto, unfolding(crate::specs::Lines::line_after))]
     pub fn after(mut self, finding: Finding) -> Line
         requires { self.accepted + self.refused + 1 < 2 ^ 64 }

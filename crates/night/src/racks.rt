@@ -16,7 +16,7 @@ use receipts::{RACK_PLACE, judged};
 
 impl Nearest {
     // The rack of a rack's block; its digest is taken here, once.
-    #[tactic(auto, unfolding(crate::specs::Pass::rack_read, receipts::specs::Block::rack_in, receipts::specs::Block::key_count))]
+    #[tactic(auto, unfolding(crate::specs::Pass::rack_read))]
     pub fn read(b: &[u8]) -> Nearest
         requires { (length b.now ≡ block_bytes) × (key_count b.now ≤ racks.most) }
         ensures { result ≡ rack_read b.now }
@@ -28,7 +28,6 @@ impl Nearest {
     }
 
     // The desk's finding of a receipt under the nearest rack.
-    #[tactic(auto, unfolding(crate::specs::Pass::nearest_rack))]
     pub fn finding(&self, b: &[u8]) -> Finding
         requires b_len { (length b.now ≡ block_bytes) × (length_in b.now ≤ reading_size) × (count_in b.now ≤ racks.most) }
         requires room { self.now.size ≤ racks.rack_bytes racks.most }

@@ -60,3 +60,6 @@ module _ (b : List ℕ) where
   receipt_count h =
       leb-true (count_in b) most
       (and_left (leb (count_in b) most) _ (and_right (leb (length_in b) reading_size) _ (and_right (eqb (type_in b) receipt_type) _ h)))
+
+-- all of these, for a proof that goes by the sort
+pub ruleset of_sorts = (is_whole, is_rack_sort, is_receipt_sort, whole_length, rack_keys, receipt_length, receipt_count)

@@ -18,7 +18,7 @@ receipt_type = 2
 abbrev pub damaged : ℕ
 damaged = 0
 
-unfoldable pub type_in : List ℕ → ℕ
+abbrev pub type_in : List ℕ → ℕ
 type_in b = get_or b 0 0
 
 -- a rack's block: the type, then the rack as 01 lays it out
@@ -26,14 +26,14 @@ abbrev pub rack_place : ℕ
 rack_place = 1
 
 -- the rack's own first byte
-unfoldable pub key_count : List ℕ → ℕ
+abbrev pub key_count : List ℕ → ℕ
 key_count b = get_or b rack_place 0
 
-unfoldable pub rack_in : List ℕ → List ℕ
+abbrev pub rack_in : List ℕ → List ℕ
 rack_in b = take (rack_bytes (key_count b)) (drop rack_place b)
 
 -- what stands between the rack and the check
-unfoldable pub rack_rest : List ℕ → List ℕ
+abbrev pub rack_rest : List ℕ → List ℕ
 rack_rest b = take (checked_bytes - (rack_place + rack_bytes (key_count b))) (drop (rack_place + rack_bytes (key_count b)) b)
 
 -- "a rack that breaks 01", "an unused byte that isn't zero"
@@ -65,35 +65,35 @@ count_place = statement_place + reading_size
 abbrev pub pairs_place : ℕ
 pairs_place = count_place + 1
 
-unfoldable pub asked_in : List ℕ → ℕ
+abbrev pub asked_in : List ℕ → ℕ
 asked_in b = get_or b asked_place 0
 
-unfoldable pub label_in : List ℕ → List ℕ
+abbrev pub label_in : List ℕ → List ℕ
 label_in b = take label_bytes (drop label_place b)
 
-unfoldable pub nonce_in : List ℕ → List ℕ
+abbrev pub nonce_in : List ℕ → List ℕ
 nonce_in b = take label_bytes (drop nonce_place b)
 
-unfoldable pub identity_in : List ℕ → List ℕ
+abbrev pub identity_in : List ℕ → List ℕ
 identity_in b = take digest_bytes (drop identity_place b)
 
-unfoldable pub length_in : List ℕ → ℕ
+abbrev pub length_in : List ℕ → ℕ
 length_in b = get_or b length_place 0
 
-unfoldable pub statement_in : List ℕ → List ℕ
+abbrev pub statement_in : List ℕ → List ℕ
 statement_in b = take (length_in b) (drop statement_place b)
 
-unfoldable pub count_in : List ℕ → ℕ
+abbrev pub count_in : List ℕ → ℕ
 count_in b = get_or b count_place 0
 
-unfoldable pub signers_in : List ℕ → List ℕ
+abbrev pub signers_in : List ℕ → List ℕ
 signers_in b = take (2 * count_in b) (drop pairs_place b)
 
 -- the statement's places past its length; the pairs past the count and what stands behind them up to the check
-unfoldable pub statement_rest : List ℕ → List ℕ
+abbrev pub statement_rest : List ℕ → List ℕ
 statement_rest b = take (count_place - (statement_place + length_in b)) (drop (statement_place + length_in b) b)
 
-unfoldable pub signers_rest : List ℕ → List ℕ
+abbrev pub signers_rest : List ℕ → List ℕ
 signers_rest b = take (checked_bytes - (pairs_place + 2 * count_in b)) (drop (pairs_place + 2 * count_in b) b)
 
 -- "a statement length over 137, a signer count over 15, an unused byte that isn't zero"

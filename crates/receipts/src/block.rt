@@ -13,7 +13,7 @@ use rack::{KEY_BYTES, MOST, is_rack};
 use statement::READING_SIZE;
 
 // Whether a block is a rack's, with zeros behind the rack.
-#[tactic(auto, unfolding(crate::specs::Block::rack_sound, crate::specs::Block::type_in, crate::specs::Block::key_count, crate::specs::Block::rack_in, crate::specs::Block::rack_rest))]
+#[tactic(auto, unfolding(crate::specs::Block::rack_sound))]
 fn is_rack_block(b: &[u8]) -> bool
     requires { length b.now ≡ block_bytes }
     ensures { result ≡ rack_sound b.now }
@@ -27,7 +27,7 @@ fn is_rack_block(b: &[u8]) -> bool
 }
 
 // Whether a block is a receipt's, with zeros in the places that it does not use.
-#[tactic(auto, unfolding(crate::specs::Block::receipt_sound, crate::specs::Block::type_in, crate::specs::Block::length_in, crate::specs::Block::count_in, crate::specs::Block::statement_rest, crate::specs::Block::signers_rest))]
+#[tactic(auto, unfolding(crate::specs::Block::receipt_sound))]
 fn is_receipt_block(b: &[u8]) -> bool
     requires { length b.now ≡ block_bytes }
     ensures { result ≡ receipt_sound b.now }

@@ -14,7 +14,7 @@ use desk::{Digested, Finding, Question, verdict_with};
 use octets::array_at;
 
 // The desk's finding of a receipt under a rack; an empty rack is none.
-#[tactic(auto, unfolding(crate::specs::Judged::finding, crate::specs::Judged::question, crate::specs::Block::asked_in, crate::specs::Block::label_in, crate::specs::Block::nonce_in, crate::specs::Block::identity_in, crate::specs::Block::length_in, crate::specs::Block::statement_in, crate::specs::Block::count_in, crate::specs::Block::signers_in))]
+#[tactic(auto, unfolding(crate::specs::Judged::finding, crate::specs::Judged::question))]
 pub fn judged(digested: Digested, b: &[u8]) -> Finding
     requires { (length b.now ≡ block_bytes) × (length_in b.now ≤ reading_size) × (count_in b.now ≤ most) }
     ensures { result ≡ finding digested.entry.rack.now b.now }

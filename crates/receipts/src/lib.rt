@@ -18,7 +18,7 @@ pub enum Sort {
     Receipt,
 }
 
-// The first byte of a rack's block, and of a receipt's.
+// The first byte of a rack's block, and of a receipt's: they stay numbers, which are bytes of the layout.
 pub const RACK: u8 = 1;
 
 pub const RECEIPT: u8 = 2;

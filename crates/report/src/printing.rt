@@ -8,6 +8,7 @@ use crate::digits::{hex_text, put_named, put_text, put_two};
 use night::{Line, Night, Totals};
 
 // The highest accepted height, or `-` where none was accepted.
+#[tactic(auto, unfolding(crate::specs::Printed::top_text))]
 fn put_top(area: &mut [u8], at: usize, accepted: u64, top: u64) -> usize
     requires { at + 29 ≤ length area.old }
     ensures { Placed result at area.old area.new (top_text accepted top) }

@@ -1,20 +1,18 @@
 -- The pass over the blocks in turn prints the report. Assumes nothing.
 use mathlib.Core.Path.{◌≡◌, refl, sym, ap, ap₂, ◌∙◌}
-use mathlib.Core.Bool.{Bool, true, false, not, cond, ◌&&◌}
+use mathlib.Core.Bool.{Bool, true, false, cond, ◌&&◌}
 use mathlib.Core.List.{List, [], ◌∷◌, ◌++◌, map}
-use Prim.Native.Nat.{ℕ, zero, suc, ◌+◌, ◌≤◌, ◌<◌}
+use Prim.Native.Nat.{ℕ, zero, suc, ◌+◌, ◌<◌}
 use native.Mathlib.Numerals.{add-one}
 use native.Mathlib.Omega.{arith}
-use borrow.Author.Tests.{eqb-true, eqb-false, eq-eqb, ne_eqb, lt-ltb, le-ltb, ltb-true, ltb-false}
+use borrow.Author.Tests.{eqb-true, lt-ltb, le-ltb, ltb-true, ltb-false}
 use lib.ListN.{length, get_or, take, drop, set, length-map}
 use lib.Seq.{take-take, take-set-lt, take-suc-set, get_or-take}
 use lib.Dec.{eqb, ltb}
-use Rattle.octets.specs.Strings.{same}
 use Rattle.octets.proofs.RoundTrips.{same_refl}
 use Rattle.rack.specs.Racks.{most, rack_bytes, is_among}
 use Rattle.checks.specs.Check.{block_at}
-use Rattle.desk.specs.declared.Finding.{Finding}
-use Rattle.receipts.specs.Block.{rack_type, receipt_type, damaged, rack_place, key_count, rack_in, label_in, rack_sound, receipt_sound, whole, sort}
+use Rattle.receipts.specs.Block.{rack_type, receipt_type, damaged, rack_place, key_count, label_in, rack_sound, receipt_sound, whole, sort}
 use Rattle.receipts.specs.Judged.{finding}
 use Rattle.receipts.proofs.Sorts.{is_rack_sort, rack_keys}
 use Rattle.night.specs.declared.Line.{Line}
@@ -59,7 +57,7 @@ module _ (file : List ℕ) (n : ℕ) where
   counted_told :
       (x y z : ℕ) → cond (is_rack file n) 1 0 ≡ x → cond (is_over file n) 1 0 ≡ y → cond (is_damaged file n) 1 0 ≡ z
       → counted (told_totals file n) x y z ≡ told_totals file (suc n)
-  unfolding counted told_totals how_many
+  unfolding told_totals how_many
   counted_told x y z p q r = rw (p, q, r, add-one n)
 
   line_named : (k : List ℕ) → (told_line file n k).label ≡ k
@@ -94,7 +92,7 @@ module _ (file : List ℕ) (n : ℕ) where
         ∙ ap (map (told_line file (suc n))) (sym (labels_none file n e))
 
     rack_told : sort (block_at file n) ≡ rack_type → AsTold file (suc n) (with_rack m (block_at file n))
-    unfolding with_rack is_rack is_receipt is_damaged nearest rack_read nearest_rack rack_in
+    unfolding with_rack is_rack is_receipt is_damaged nearest rack_read
     rack_told e =
         let r : is_receipt file n ≡ false = rw e in
         record {
@@ -165,7 +163,6 @@ module _ (file : List ℕ) (n : ℕ) where
           is_among (label file n) (labels file n) ≡ true
           → AsTold file (suc n) (with_line m (place (label file n) (map (told_line file n) (labels file n))) m.known (line_after (get_or m.lines
           (place (label file n) (map (told_line file n) (labels file n))) no_line) (judgement file n)))
-      unfolding with_line
       known_told a =
           let i : ℕ = place (label file n) (map (told_line file n) (labels file n)) in
           let h : i < m.known = omega (arith, found_place (told_line file n) line_named (label file n) (labels file n) a, known_is) in
@@ -186,7 +183,6 @@ module _ (file : List ℕ) (n : ℕ) where
       new_told :
           is_among (label file n) (labels file n) ≡ false → ltb (length (labels file n)) most_labels ≡ true
           → AsTold file (suc n) (with_line m m.known (m.known + 1) (line_after (new_line (label file n)) (judgement file n)))
-      unfolding with_line
       new_told a w =
           let l : Line = line_after (new_line (label file n)) (judgement file n) in
           let few : length (labels file n) < most_labels = ltb-true (length (labels file n)) most_labels w in
@@ -254,7 +250,7 @@ module _ (file : List ℕ) (n : ℕ) where
         go false p false q = damaged_told p q
 
 start_told : (file : List ℕ) → AsTold file 0 start
-unfolding start labels told_totals how_many nearest nearest_rack
+unfolding start labels told_totals how_many nearest
 start_told file = record { lines = refl; totals = refl; rack = refl }
 
 pub pass_told : (file : List ℕ) (n : ℕ) → AsTold file n (passed start file n)

@@ -27,4 +27,5 @@ returns-else-s-lt-NONCE_PLACE c rack =
     let a = c.args in
     let d = drop nonce_place a.s.now in
     rw (eq-eqb _ _ c.if-question-ne-READ.false)
-    (ap not (c.is_same.ensures ∙ ap (λ (l : List _). same l a.question.nonce) (take_all (length a.s.now - nonce_place) d (omega (arith, length-drop nonce_place a.s.now)))))
+    (ap not (c.is_same.ensures
+    ∙ ap (λ (l : List _). same l a.question.nonce) (take_all (length a.s.now - nonce_place) d (omega (arith, length-drop nonce_place a.s.now)))))

@@ -10,7 +10,8 @@ pub returns-then-not-is_fitting : goal.returns-then-not-is_fitting
 unfolding receipt_filed
 returns-then-not-is_fitting c =
     let a = c.args in
-    filed-broken (receipt_fits a.s.now a.signers.now) 23 (receipt_body a.question a.s.now a.signers.now) a.area.now (sym c.is_fitting.ensures ∙ c.if-not-is_fitting.true)
+    filed-broken (receipt_fits a.s.now a.signers.now) 23 (receipt_body a.question a.s.now a.signers.now) a.area.now
+    (sym c.is_fitting.ensures ∙ c.if-not-is_fitting.true)
 
 pub returns : goal.returns
 unfolding receipt_filed

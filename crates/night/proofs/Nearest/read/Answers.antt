@@ -5,12 +5,11 @@ use native.Mathlib.Omega.{arith}
 use lib.ListN.{get_or, take, drop, length-take}
 use lib.Seq.{take_all}
 use Rattle.rack.specs.Racks.{most, rack_bytes, rack_digest}
-use Rattle.receipts.specs.Block.{key_count, rack_in}
 use Rattle.night.specs.Pass.{rack_read}
 use Rattle.night.proofs.Nearest.read.Goals as goal
 
 pub returns : goal.returns
-unfolding rack_read rack_in key_count
+unfolding rack_read
 returns c =
     let b = c.args.b.now in
     let size = rack_bytes (get_or b 1 0) in
