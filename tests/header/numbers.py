@@ -4,7 +4,10 @@ failure where the Rust binding has another meaning or another version than the h
 import re
 
 HEADER = open("include/mahqurith.h").read()
-library = dict(re.findall(r"pub const (\w+): u32 = (\d+);", open("crates/refusals/src/lib.rt").read()))
+REFUSALS = open("crates/refusals/src/lib.rt").read()
+library = dict(re.findall(r"pub const (\w+): u32 = (\d+);", REFUSALS))
+# A refusal's name is written as one word for each of the header's.
+library |= {re.sub(r"(?<!^)(?=[A-Z])", "_", name).upper(): number for name, number in re.findall(r"Refusal::(\w+)(?: \{ height: _ \})? => (\d+),", REFUSALS)}
 quoted = re.findall(r"^-- (.*)\nabbrev pub ([\w-]+) : ℕ\n\2 = (\d+)$", open("crates/refusals/specs/Lib.antt").read(), re.M)
 # "the number above" is in 01 the number of bytes that it gives the call.
 meanings = {int(number): words.replace("the number above", "the call's size").replace("the call is ", "") for words, _, number in quoted}
