@@ -1,23 +1,23 @@
 // A night after one block more.
-ghost use Rattle.std.specs.Prelude.{◌≡◌, ◌+◌, ◌≤◌, ◌<◌, ◌^◌, length};
+ghost use Rattle.std.specs.Prelude.{◌≡◌, ◌+◌, ◌≤◌, ◌<◌, ◌^◌};
 ghost use Rattle.rack.specs.Racks.{most};
 ghost use Rattle.statement.specs.Kinds.{reading_size};
-ghost use Rattle.checks.specs.Check.{block_bytes};
 ghost use Rattle.receipts.specs.Block.{key_count, length_in, count_in};
 ghost use Rattle.night.specs.Lines.{most_labels};
 ghost use Rattle.night.specs.Pass as specs;
 ghost use Rattle.night.specs.Pass.{Kept};
 
 use crate::{Line, MOST_LABELS, Nearest, Night};
+use checks::BLOCK;
 use octets::array_at;
 use receipts::{LABEL_PLACE, Sort, sort_of};
 
 impl Night {
     // A rack.
     #[tactic(auto, unfolding(crate::specs::Pass::with_rack))]
-    fn add_rack(&mut self, b: &[u8])
+    fn add_rack(&mut self, b: &[u8; BLOCK])
         requires kept { Kept self.old × (self.old.totals.blocks + 1 < 2 ^ 64) }
-        requires b_len { (length b.now ≡ block_bytes) × (key_count b.now ≤ most) }
+        requires count { key_count b.now ≤ most }
         ensures { self.new ≡ specs.with_rack self.old b.now }
     {
         self.totals.blocks += 1;
@@ -46,9 +46,9 @@ impl Night {
 
     // A receipt of a label whose line stands at i, or comes to stand there.
     #[tactic(auto, using(crate::proofs::Keeping::line_below), unfolding(crate::specs::Pass::with_label, crate::specs::Lines::no_line, crate::specs::Lines::new_line))]
-    fn add_judged(&mut self, b: &[u8], i: usize)
+    fn add_judged(&mut self, b: &[u8; BLOCK], i: usize)
         requires kept { Kept self.old × (self.old.totals.blocks + 1 < 2 ^ 64) × (i < most_labels) × (i ≤ self.old.known) }
-        requires b_len { (length b.now ≡ block_bytes) × (length_in b.now ≤ reading_size) × (count_in b.now ≤ most) }
+        requires counts { (length_in b.now ≤ reading_size) × (count_in b.now ≤ most) }
         ensures { self.new ≡ specs.with_label self.old b.now i }
     {
         let finding = self.nearest.finding(b);
@@ -63,9 +63,9 @@ impl Night {
     }
 
     #[tactic(auto, unfolding(crate::specs::Pass::with_receipt))]
-    fn add_receipt(&mut self, b: &[u8])
+    fn add_receipt(&mut self, b: &[u8; BLOCK])
         requires kept { Kept self.old × (self.old.totals.blocks + 1 < 2 ^ 64) }
-        requires b_len { (length b.now ≡ block_bytes) × (length_in b.now ≤ reading_size) × (count_in b.now ≤ most) }
+        requires counts { (length_in b.now ≤ reading_size) × (count_in b.now ≤ most) }
         ensures { self.new ≡ specs.with_receipt self.old b.now }
     {
         let i = self.place_of(array_at(b, LABEL_PLACE));
@@ -77,14 +77,17 @@ impl Night {
     }
 
     // One block more.
-    #[tactic(auto, using(receipts::proofs::Sorts::of_sorts), unfolding(crate::specs::Pass::step))]
+    #[tactic(auto, using(receipts::proofs::Sorts::of_sorts), unfolding(crate::specs::Pass::step, receipts::specs::Block::sort, receipts::specs::Block::whole))]
     pub fn step(&mut self, b: &[u8])
         requires { Kept self.old × (self.old.totals.blocks + 1 < 2 ^ 64) }
         ensures { self.new ≡ specs.step self.old b.now }
     {
-        match sort_of(b) {
-            Sort::Rack => self.add_rack(b),
-            Sort::Receipt => self.add_receipt(b),
+        let Ok(block) = <&[u8; BLOCK]>::try_from(b) else {
+            return self.add_damaged();
+        };
+        match sort_of(block) {
+            Sort::Rack => self.add_rack(block),
+            Sort::Receipt => self.add_receipt(block),
             Sort::Damaged => self.add_damaged(),
         }
     }

@@ -1,6 +1,5 @@
 // What a block is: a rack, a receipt, or damaged.
-ghost use Rattle.std.specs.Prelude.{◌≡◌, length};
-ghost use Rattle.checks.specs.Check.{block_bytes};
+ghost use Rattle.std.specs.Prelude.{◌≡◌};
 ghost use Rattle.receipts.specs.Block.{rack_sound, receipt_sound, sort};
 ghost use Rattle.receipts.specs.Sorts.{sort_number};
 
@@ -14,8 +13,7 @@ use statement::READING_SIZE;
 
 // Whether a block is a rack's, with zeros behind the rack.
 #[tactic(auto, unfolding(crate::specs::Block::rack_sound))]
-fn is_rack_block(b: &[u8]) -> bool
-    requires { length b.now ≡ block_bytes }
+fn is_rack_block(b: &[u8; BLOCK]) -> bool
     ensures { result ≡ rack_sound b.now }
 {
     let n = usize::from(b[RACK_PLACE]);
@@ -28,8 +26,7 @@ fn is_rack_block(b: &[u8]) -> bool
 
 // Whether a block is a receipt's, with zeros in the places that it does not use.
 #[tactic(auto, unfolding(crate::specs::Block::receipt_sound))]
-fn is_receipt_block(b: &[u8]) -> bool
-    requires { length b.now ≡ block_bytes }
+fn is_receipt_block(b: &[u8; BLOCK]) -> bool
     ensures { result ≡ receipt_sound b.now }
 {
     let n = usize::from(b[LENGTH_PLACE]);
@@ -46,11 +43,14 @@ fn is_receipt_block(b: &[u8]) -> bool
 pub fn sort_of(b: &[u8]) -> Sort
     ensures { sort_number result ≡ sort b.now }
 {
-    if b.len() != BLOCK || !is_checked(b) {
+    let Ok(block) = <&[u8; BLOCK]>::try_from(b) else {
+        return Sort::Damaged;
+    };
+    if !is_checked(block) {
         Sort::Damaged
-    } else if is_rack_block(b) {
+    } else if is_rack_block(block) {
         Sort::Rack
-    } else if is_receipt_block(b) {
+    } else if is_receipt_block(block) {
         Sort::Receipt
     } else {
         Sort::Damaged

@@ -15,7 +15,7 @@ returns c =
     let size = rack_bytes (get_or b 1 0) in
     let e : 1 + size - 1 ≡ size = omega arith in
     let whole : take (rack_bytes most) (take size (drop 1 b)) ≡ take size (drop 1 b) =
-    take_all (rack_bytes most) (take size (drop 1 b)) (omega (arith, length-take size (drop 1 b), c.requires.1)) in
+    take_all (rack_bytes most) (take size (drop 1 b)) (omega (arith, length-take size (drop 1 b), c.requires)) in
     rw c.from.ensures
     (ap₂ (λ (r d : List ℕ). record { rack = r; size = size; digest = d }) c.array_at-rack.ensures
     (rw (c.from.ensures, e) at c.rack_digest-digest.ensures ∙ ap rack_digest whole))
