@@ -23,12 +23,6 @@ whole c =
     let a = c.args in
     omega (arith, c.requires.5, length-append a.e.now (lists_of a.e.now a.store.now a.table.now a.count (old_count a.e.now)))
 
-pub copy_at-requires : goal.copy_at-requires
-copy_at-requires c = omega (arith, whole (goal.at.copy_at-requires c).Start)
-
-pub of-roll-items-requires : goal.of-roll-items-requires
-of-roll-items-requires c = (omega (arith, c.requires.0.within), c.requires.0.short)
-
 -- the area with the entries in front
 abbrev front : Start → List ℕ
 front c = put c.args.area.now 0 c.args.e.now
@@ -109,16 +103,6 @@ loop-roll-preserved c =
       area = here.1 ∙ ap₂ (λ (x roll : List ℕ). put x l.place (lists_by roll store t a.count)) l.invariant.area next.roll_is
           ∙ of_put s store t a.count _ (length s) i l.place l.invariant.place (omega (arith, f, room there));
     })
-
-pub shape_of-area : goal.shape_of-area
-shape_of-area c =
-    let a = c.args in
-    let l = c.loop-roll in
-    let e = ended a.e.now (length l.yielded) l.invariant.given (sym l.invariant.left ∙ c.in-None.ensures.steps.0) in
-    let f = ap length c.copy_at.ensures ∙ front_long (goal.at.shape_of-area c).Start in
-    ap length l.invariant.area
-    ∙ put-length _ (length a.e.now) (lists_of a.e.now a.store.now a.table.now a.count (length l.yielded))
-    (rw e (omega (arith, f, whole (goal.at.shape_of-area c).Start))) ∙ f
 
 pub returns : goal.returns
 returns c =

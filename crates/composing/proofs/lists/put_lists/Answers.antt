@@ -22,17 +22,6 @@ pub loop-r-init : goal.loop-r-init
 unfolding lists_by
 loop-r-init c = (omega arith, sym (put_none c.args.area.now c.args.at))
 
-pub label_at-label-requires : goal.label_at-label-requires
-label_at-label-requires c = (omega (arith, c.requires.2), c.requires.3)
-
-pub old_row-old-requires : goal.old_row-old-requires
-old_row-old-requires c = c.requires.0
-
-pub need-n-requires : goal.need-n-requires
-need-n-requires c =
-    let start = c in
-    (omega (arith, start.requires.2), start.requires.3)
-
 -- the height of the old row
 height :
     (c : After-old_row-old)
@@ -117,15 +106,6 @@ loop-r-preserved c =
           ))
           ∙ ap (put a.area.now a.at) (sym (lists_next roll s t l.r)),
     )
-
-pub shape_of-area : goal.shape_of-area
-shape_of-area c =
-    let a = c.args in
-    let l = c.loop-r in
-    let e : l.r ≡ a.count = omega arith in
-    ap length l.invariant.1
-    ∙ put-length a.area.now a.at (lists_by a.roll.now a.store.now a.table.now l.r)
-    (rw e (omega (arith, c.requires.5)))
 
 pub returns : goal.returns
 returns c =

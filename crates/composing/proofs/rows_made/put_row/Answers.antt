@@ -2,26 +2,10 @@ use mathlib.Core.Path.{ap, ◌∙◌}
 use mathlib.Core.List.{List}
 use Prim.Native.Nat.{ℕ, ◌+◌, ◌*◌}
 use native.Mathlib.Omega.{arith}
-use lib.ListN.{length}
 use Rattle.octets.specs.Numbers.{bytes_of}
 use Rattle.octets.specs.Strings.{put}
-use Rattle.octets.proofs.Puts.{put-length}
 use Rattle.composing.proofs.Placed.{row_put}
 use Rattle.composing.proofs.rows_made.put_row.Goals as goal
-
-pub copy_at-requires-2 : goal.copy_at-requires-2
-copy_at-requires-2 c =
-    let a = c.args in
-    let p = c.requires in
-    omega (
-      arith,
-      p.0,
-      p.1,
-      p.2,
-      p.3,
-      ap length c.copy_at.ensures
-          ∙ put-length a.table.now (56 * a.r) a.label (omega (arith, p.0, p.1, p.2)),
-    )
 
 pub returns : goal.returns
 returns c =

@@ -3,27 +3,20 @@ use mathlib.Core.Bool.{true, false}
 use mathlib.Core.List.{List, ◌++◌}
 use Prim.Native.Nat.{ℕ, ◌+◌, ◌*◌, ◌≤◌}
 use native.Mathlib.Omega.{arith}
-use lib.ListN.{length, replicate}
+use lib.ListN.{replicate}
 use Rattle.octets.specs.Numbers.{bytes_of}
 use Rattle.octets.specs.Strings.{all_zero, put}
 use Rattle.rows.specs.Sizes.{row_bytes, most_rows, table_bytes}
 use Rattle.roll.specs.Roll.{filled}
-use Rattle.roll.proofs.Strings.{filled-length}
 use Rattle.store.specs.Area.{first_place}
 use Rattle.store.proofs.Places.{first_next, first_found}
 use Rattle.rules.specs.Bundle.{old_count}
 use Rattle.maker.specs.declared.Highest.{Highest}
 use Rattle.maker.specs.Rolls.{highest, next_of, label_number, row_count, row_made, rows_made, roll_made}
-use Rattle.maker.proofs.OldLabels.{number_long}
-use Rattle.maker.proofs.Tops.{highest_long}
 use Rattle.composing.proofs.Placed.{last_of, number_next, last_next, none_long, none_filled, more_long, more_filled}
 use Rattle.composing.proofs.rows_made.put_rows.Goals as goal
 use Rattle.composing.proofs.rows_made.put_rows.Invariants.{passed}
 use Rattle.composing.proofs.rows_made.put_rows.Goals.{After-next_label, After-next_label-label, Else-is_zero}
-
-long : (e : List ℕ) (r : ℕ) {t : List ℕ} → r ≤ most_rows → length (rows_made e r) ≡ row_bytes * r → t ≡ filled table_bytes (rows_made e r)
-    → length t ≡ table_bytes
-long e r h l p = ap length p ∙ filled-length table_bytes (rows_made e r) (omega arith)
 
 -- what the table is where the count is known
 made : (e : List ℕ) (r : ℕ) {t : List ℕ} → r ≡ row_count e → t ≡ filled table_bytes (rows_made e r) → t ≡ (roll_made e).rows
@@ -50,15 +43,6 @@ loop-r-init c =
           ∙ ap (λ (k : ℕ). replicate k 0) c.requires.1 ∙ none_filled e,
     )
 
-pub next_label-label-requires : goal.next_label-label-requires
-next_label-label-requires c = c.requires.0
-
-pub shape_of-table-then-is_zero : goal.shape_of-table-then-is_zero
-shape_of-table-then-is_zero c =
-    let l = c.loop-r in
-    long c.args.e.now l.r (omega arith) l.invariant.2
-    l.invariant.3 ∙ sym c.requires.1
-
 -- the label with the loop's number
 label : (c : After-next_label-label)
     → c.next_label-label.result ≡ label_number c.args.e.now
@@ -76,26 +60,12 @@ returns-then-is_zero c =
     let p = ended e l.r (omega arith) l.invariant.1 z in
     (p, λ few. made e l.r p l.invariant.3)
 
-pub highest-requires : goal.highest-requires
-highest-requires c = c.requires.0
-
 -- it is not zeros
 some : (c : Else-is_zero)
     → all_zero
     (label_number c.args.e.now
     c.loop-r.r) ≡ false
 some c = ap all_zero (sym (label (goal.at.Else-is_zero c).After-next_label-label)) ∙ sym c.is_zero.ensures ∙ c.if-is_zero.false
-
-pub put_row-requires : goal.put_row-requires
-put_row-requires c =
-    let e = c.args.e.now in
-    let l = c.loop-r in
-    let held = c.requires.0.rolls in (
-      omega arith,
-      long e l.r (omega arith) l.invariant.2 l.invariant.3,
-      ap length (label (goal.at.put_row-requires c).After-next_label-label) ∙ number_long e held l.r (some (goal.at.put_row-requires c).Else-is_zero),
-      ap (λ (h : Highest). length h.tail) c.highest.ensures ∙ highest_long e held c.next_label-label.result,
-    )
 
 pub loop-r-preserved : goal.loop-r-preserved
 unfolding row_made
@@ -118,15 +88,6 @@ loop-r-preserved c =
           ∙ more_filled e held l.r n l.invariant.2 (omega arith),
     )
 
-pub next_label-requires : goal.next_label-requires
-next_label-requires c = c.requires.0
-
-pub shape_of-table-then-is_zero-2 : goal.shape_of-table-then-is_zero-2
-shape_of-table-then-is_zero-2 c =
-    let l = c.loop-r in
-    long c.args.e.now l.r (omega arith) l.invariant.2
-    l.invariant.3 ∙ sym c.requires.1
-
 -- after 63 rows
 last_label : (c : After-next_label)
     → c.next_label.result ≡ label_number c.args.e.now most_rows
@@ -144,12 +105,6 @@ returns-then-is_zero-2 c =
     let p = ended e most_rows (omega arith) (rw k at l.invariant.1)
     (ap all_zero (sym (last_label (goal.at.returns-then-is_zero-2 c).After-next_label)) ∙ sym c.is_zero-2.ensures ∙ c.if-is_zero-2.true) in
     (p, λ few. made e most_rows p (rw k at l.invariant.3))
-
-pub shape_of-table : goal.shape_of-table
-shape_of-table c =
-    let l = c.loop-r in
-    long c.args.e.now l.r (omega arith) l.invariant.2
-    l.invariant.3 ∙ sym c.requires.1
 
 pub returns : goal.returns
 returns c =

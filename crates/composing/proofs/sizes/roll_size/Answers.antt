@@ -17,17 +17,6 @@ pub loop-r-init : goal.loop-r-init
 unfolding each lists_size
 loop-r-init c = (refl, refl, omega arith)
 
-pub label_at-requires : goal.label_at-requires
-label_at-requires c = (omega (arith, c.requires.1), c.requires.2)
-
-pub old_row-old-requires : goal.old_row-old-requires
-old_row-old-requires c = c.requires.0
-
-pub need-n-requires : goal.need-n-requires
-need-n-requires c =
-    let start = c in
-    (omega (arith, start.requires.1), start.requires.2)
-
 -- how far the row lies above the old one
 needed :
     (c : After-need-n)
@@ -44,17 +33,6 @@ returns-then-n-gt-MOST_ADDED c =
     let a = c.args in
     let l = c.loop-r in
     (sym (size_over a.roll.now a.table.now a.count l.r (omega arith) (omega (arith, c.if-n-gt-MOST_ADDED.true, needed (goal.at.returns-then-n-gt-MOST_ADDED c).After-need-n))), omega arith)
-
-pub overflow_mul-size : goal.overflow_mul-size
-overflow_mul-size c = omega (arith, c.if-n-gt-MOST_ADDED.false)
-
-pub overflow_add-size : goal.overflow_add-size
-overflow_add-size c = omega (arith, c.if-n-gt-MOST_ADDED.false)
-
-pub overflow_add-size-in-loop-r : goal.overflow_add-size-in-loop-r
-overflow_add-size-in-loop-r c =
-    omega
-    (arith, c.if-n-gt-MOST_ADDED.false, c.loop-r.invariant.2, c.requires.1)
 
 pub loop-r-preserved : goal.loop-r-preserved
 loop-r-preserved c =

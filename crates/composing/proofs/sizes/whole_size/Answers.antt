@@ -12,9 +12,6 @@ use Rattle.composing.proofs.Lengths.{whole_next}
 use Rattle.composing.proofs.sizes.whole_size.Goals as goal
 use Rattle.composing.proofs.sizes.whole_size.Goals.{In-Some}
 
-pub of-roll-items-requires : goal.of-roll-items-requires
-of-roll-items-requires c = (omega (arith, c.requires.0.within), c.requires.0.short)
-
 pub loop-roll-init : goal.loop-roll-init
 unfolding whole_size
 loop-roll-init c =
@@ -31,11 +28,6 @@ turn c = given _ _ _ _ (sym c.loop-roll.invariant.left ∙ c.in-Some.ensures.ste
 
 pub roll_size-size-requires : goal.roll_size-size-requires
 roll_size-size-requires c = let t = turn c in (rw t.roll_is (roll_holds c.requires.0 _ t.below), c.requires.1, c.requires.2)
-
-pub overflow_add-size : goal.overflow_add-size
-overflow_add-size c =
-    let t = turn (goal.at.overflow_add-size c).In-Some in
-    omega (arith, c.roll_size-size.ensures.1, c.loop-roll.invariant.bound, t.below, c.shared_slice_known-1.given 0)
 
 pub loop-roll-preserved : goal.loop-roll-preserved
 loop-roll-preserved c =

@@ -15,9 +15,6 @@ returns-then-are_too_few c =
     let a = c.args in
     sym (few_refuse a.previous.now a.own.now a.s.now (sym c.are_too_few.ensures ∙ c.if-are_too_few.true))
 
-pub check_old_marks-requires : goal.check_old_marks-requires
-check_old_marks-requires c = let p = c.requires in (omega (arith, p.2, list_first c.args.s.now), p.3)
-
 pub returns-in_err-check_old_marks : goal.returns-in_err-check_old_marks
 returns-in_err-check_old_marks c =
     let a = c.args in

@@ -1,5 +1,4 @@
 use mathlib.Core.Path.{◌∙◌}
-use native.Mathlib.Omega.{arith}
 use borrow.Author.Rules.{rules}
 use borrow.Author.Tests.{tests}
 use Rattle.std.proofs.lemmas.Iterator.Consumers.{YieldsList-from_first}
@@ -9,9 +8,6 @@ use Rattle.roll.specs.Roll.{roll_layout}
 use Rattle.bundle.specs.Rolls.{all_rolls, rolls_left}
 use Rattle.bundle.proofs.RollsLeft.{all_tested}
 use Rattle.entries.proofs.rolls.rolls_hold.Goals as goal
-
-pub of-requires : goal.of-requires
-of-requires c = (omega (arith, c.requires.0), c.requires.1)
 
 pub returns : goal.returns
 returns c =
