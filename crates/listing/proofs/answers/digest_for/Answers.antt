@@ -7,7 +7,7 @@ use Rattle.cabinet.specs.Block.{digest_in}
 use Rattle.store.specs.Area.{blocks, block_at}
 use Rattle.store.proofs.Places.{among_some}
 use Rattle.store.specs.Read.{first_answer}
-use Rattle.listing.proofs.Answered.{answering, place_within, place_lies, place_has, digest_there}
+use Rattle.listing.proofs.Answered.{answering, place_within, place_has, digest_there}
 use Rattle.listing.proofs.answers.digest_for.Goals as goal
 use Rattle.listing.proofs.answers.digest_for.Goals.{Start}
 
@@ -37,13 +37,6 @@ unwrap-requires c =
     let n = there s in
     let place = first_answer a.store.now a.label a.height (blocks a.store.now) in
     rw (c.first_answer.ensures, lt-ltb place (blocks a.store.now) (omega (arith, within, n))) (search rules)
-
-pub digest_at-requires-2 : goal.digest_at-requires-2
-unfolding blocks
-digest_at-requires-2 c =
-    let s = (goal.at.digest_at-requires-2 c).Start in
-    let at = among_some _ _ _ (sym c.first_answer.ensures ∙ c.unwrap.ensures) in
-    omega (arith, at.0, place_lies s.args.store.now s.args.label s.args.height s.requires.0 (there s))
 
 pub returns : goal.returns
 unfolding blocks

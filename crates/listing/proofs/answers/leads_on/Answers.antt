@@ -13,21 +13,12 @@ use Rattle.store.specs.Read.{first_answer}
 use Rattle.store.proofs.Places.{among_some, among_none}
 use Rattle.rules.specs.Derivation.{grown}
 use Rattle.maker.specs.Lists.{answered, listed, entry_digest}
-use Rattle.listing.proofs.Answered.{unanswered, is_answered, place_within, place_lies, digest_there, grown-listed, leads_fails, leads_all}
+use Rattle.listing.proofs.Answered.{unanswered, is_answered, place_within, digest_there, grown-listed, leads_fails, leads_all}
 use Rattle.listing.proofs.answers.leads_on.Goals as goal
-
-pub overflow_sub-d-end : goal.overflow_sub-d-end
-overflow_sub-d-end c = omega (arith, c.requires.1)
 
 pub loop-d-init : goal.loop-d-init
 unfolding each grown
 loop-d-init c = (refl, refl)
-
-pub overflow_add-d : goal.overflow_add-d
-overflow_add-d c = omega (arith, c.requires.1)
-
-pub overflow_add-row : goal.overflow_add-row
-overflow_add-row c = omega (arith, c.requires.1)
 
 pub returns-in_default : goal.returns-in_default
 unfolding blocks
@@ -39,14 +30,6 @@ returns-in_default c =
     sym (leads_fails a.store.now a.label a.row a.top l.d (omega arith)
     (unanswered a.store.now a.label (a.row.height + (l.d + 1)) c.requires.0
     (omega (arith, none, within))))
-
-pub digest_at-requires : goal.digest_at-requires
-unfolding blocks
-digest_at-requires c =
-    let a = c.args in
-    let l = c.loop-d in
-    let there = among_some _ _ _ (sym c.first_answer.ensures ∙ c.in-Some.is) in
-    omega (arith, there.0, place_lies a.store.now a.label (a.row.height + (l.d + 1)) c.requires.0 (λ f. omega (arith, there.1, f)))
 
 pub loop-d-preserved : goal.loop-d-preserved
 unfolding blocks

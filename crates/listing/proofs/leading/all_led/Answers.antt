@@ -6,12 +6,9 @@ use Rattle.rows.proofs.Tables.{each_next, each_fails}
 use Rattle.rules.specs.Bundle.{old_count, old_at}
 use Rattle.bundle.proofs.Places.{old_step}
 use Rattle.maker.specs.Lists.{roll_led, all_led}
-use Rattle.gathering.proofs.Walks.{some_byte, entry_lies, head_lies, roll_cut}
+use Rattle.gathering.proofs.Walks.{entry_lies, head_lies, roll_cut}
 use Rattle.listing.proofs.leading.all_led.Goals as goal
 use Rattle.listing.proofs.leading.all_led.Goals.{In-loop-i}
-
-pub old_count-i-end-requires : goal.old_count-i-end-requires
-old_count-i-end-requires c = some_byte c.requires.0
 
 pub loop-i-init : goal.loop-i-init
 unfolding old_at each

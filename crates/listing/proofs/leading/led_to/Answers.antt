@@ -17,9 +17,6 @@ use Rattle.listing.proofs.Led.{leads_is, lower}
 use Rattle.listing.proofs.leading.led_to.Goals as goal
 use Rattle.listing.proofs.leading.led_to.Goals.{After-leads_on, After-old_row, In-Some}
 
-pub of-roll-items-requires : goal.of-roll-items-requires
-of-roll-items-requires c = (omega (arith, c.requires.0.within), c.requires.0.short)
-
 pub loop-roll-init : goal.loop-roll-init
 unfolding each
 loop-roll-init c =

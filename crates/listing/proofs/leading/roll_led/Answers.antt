@@ -31,9 +31,6 @@ label_in-requires c = (
       c.loop-q.q (omega (arith, c.count_in-q-end.ensures)),
 )
 
-pub is_led-requires : goal.is_led-requires
-is_led-requires c = let p = c.requires in (p.0, p.1, omega (arith, p.2), p.3)
-
 pub returns-then-not-is_led : goal.returns-then-not-is_led
 unfolding roll_led
 returns-then-not-is_led c =
