@@ -21,7 +21,7 @@ fn is_in_rack(key: [u8; 32], rack: &[u8]) -> bool
 {
     let mut keys = [[0u8; KEY_BYTES]; MOST];
     match read_rack(rack, &mut keys) {
-        Ok(count) => is_member(&keys[..usize::from(count)], key),
+        Ok(count) => is_member(keys, usize::from(count), key),
         Err(_) => false,
     }
 }

@@ -33,10 +33,10 @@ module _ (n : ℕ) (ps : List (ParamKind n)) (res : ResultKind n) where
       (κs : Lfts n) (a : Dens κs ps) (r r' : (res_t res κs).Denot) (e e' : AtExit (ended_of n ps res) κs)
       → post κs a r e → post κs a r' e' → seen κs r e ≡ seen κs r' e'
 
-pub is_rising_one : One 1 is-rising.ps is-rising.r Bool is-rising-contract.Post (λ κs r e. r)
+pub is_rising_one : One 0 is-rising.ps is-rising.r Bool is-rising-contract.Post (λ κs r e. r)
 is_rising_one κs a r r' e e' p q = p ∙ sym q
 
-pub is_member_one : One 1 is_member.ps is_member.r Bool is-member-contract.Post (λ κs r e. r)
+pub is_member_one : One 0 is_member.ps is_member.r Bool is-member-contract.Post (λ κs r e. r)
 is_member_one κs a r r' e e' p q = p ∙ sym q
 
 pub majority_one : One 0 majority.ps majority.r ℕ majority-contract.Post (λ κs r e. r)

@@ -1,11 +1,13 @@
 -- What the library's words say of keys: pieces of a string, keys joined, one among them, and their order. Assumes nothing.
-use mathlib.Core.Path.{◌≡◌, refl, sym, ap, ap₂}
+use mathlib.Core.Path.{◌≡◌, refl, sym, ap, ap₂, ◌∙◌}
 use mathlib.Core.Bool.{Bool, true, false, ◌||◌, and-false}
 use mathlib.Core.List.{List, [], ◌∷◌, ◌++◌, flatten}
-use Prim.Native.Nat.{ℕ, zero, suc, ◌+◌, ◌<◌}
+use Prim.Native.Nat.{ℕ, zero, suc, ◌+◌, ◌<◌, min}
 use native.Mathlib.Numerals.{add-one}
+use native.Mathlib.Decide.{dec_lt}
 use native.Mathlib.Omega.{arith}
 use lib.ListN.{length, get_or, take, drop}
+use lib.Seq.{take_all}
 use lib.Dec.{eqb}
 use lib.Pointwise.{pointwise}
 use Rattle.std.specs.List.{flat_map, list_any, slice_get, IsAllAdjacentAnswer}
@@ -14,7 +16,7 @@ use Rattle.std.proofs.Common.{Option, Some, None, Bor}
 use Rattle.std.specs.Simd.{first_chunks}
 use Rattle.octets.specs.Strings.{pieces, before, rising}
 use Rattle.octets.proofs.Compared.{same_pointwise}
-use Rattle.rack.specs.Racks.{is_among, rack_cut, is_of_two}
+use Rattle.rack.specs.Racks.{most, is_among, rack_cut, is_of_two}
 
 pub first_chunks_are : (k n : ℕ) (s : List ℕ) → first_chunks k n s ≡ pieces k n s
 unfolding pieces
@@ -25,6 +27,14 @@ pub flat_is : (l : List (List ℕ)) → flat_map (λ x. x) l ≡ flatten l
 unfolding flatten
 flat_is [] = refl
 flat_is (x ∷ l) = ap (λ (s : List ℕ). x ++ s) (flat_is l)
+
+-- the first keys, of no more places than there are
+pub first_keys : (k n : ℕ) (l : List (List ℕ)) → length l ≡ most → n ≡ min k most → take n l ≡ take k l
+first_keys k n l w e = go (dec_lt k most)
+  where
+    go : Dec (k < most) → take n l ≡ take k l
+    go (yes h) = let m : n ≡ k = omega arith in rw m
+    go (no h) = take_all n l (omega arith) ∙ sym (take_all k l (omega arith))
 
 rising_each :
     (l : List (List ℕ)) → ((k : ℕ) → k + 1 < length l → before (get_or l k []) (get_or l (k + 1) []) ≡ true) → rising l ≡ true

@@ -31,13 +31,13 @@ fn keys_in(s: &[u8], n: usize) -> &[[u8; KEY_BYTES]]
     s[1..].as_chunks().0
 }
 
-// Keys in the first places, and zeros in the others.
-fn placed(first: &[[u8; KEY_BYTES]]) -> Keys
-    requires { length first.now ≤ most }
-    ensures { result ≡ first.now ++ replicate (most - length first.now) (replicate key_bytes 0) }
+// The keys of a string that is as long as a rack of n, each in its place, and zeros in the others.
+fn taken_apart(s: &[u8], n: usize) -> Keys
+    requires { (n ≤ most) × (length s.now ≡ rack_bytes n) }
+    ensures { result ≡ pieces key_bytes n (drop 1 s.now) ++ replicate (most - n) (replicate key_bytes 0) }
 {
     let mut keys = [[0u8; KEY_BYTES]; MOST];
-    keys[..first.len()].copy_from_slice(first);
+    keys[..n].copy_from_slice(keys_in(s, n));
     keys
 }
 
@@ -46,11 +46,15 @@ fn placed(first: &[[u8; KEY_BYTES]]) -> Keys
 pub fn is_rack(s: &[u8]) -> bool
     ensures { result ≡ holds rack_layout s.now }
 {
-    has_rack_length(s) && is_rising(keys_in(s, usize::from(s[0])))
+    if !has_rack_length(s) {
+        return false;
+    }
+    let n = usize::from(s[0]);
+    is_rising(taken_apart(s, n), n)
 }
 
 // Takes a rack apart into the fifteen places, or the layout is broken and nothing changes.
-#[tactic(auto, using(crate::proofs::Racks::holds_length, crate::proofs::RackTrips::reading_broken))]
+#[tactic(auto, using(crate::proofs::Racks::holds_few, crate::proofs::Racks::holds_length, crate::proofs::RackTrips::reading_broken))]
 pub fn read_rack(s: &[u8], keys: &mut Keys) -> Result<u8, Refusal>
     ensures { record { answer = answer_of result; count = result_unwrap_or result 0; keys = keys.new } ≡ reading s.now keys.old }
 {
@@ -58,6 +62,6 @@ pub fn read_rack(s: &[u8], keys: &mut Keys) -> Result<u8, Refusal>
         return Err(Refusal::RackBroken);
     }
     let count = s[0];
-    *keys = placed(keys_in(s, usize::from(count)));
+    *keys = taken_apart(s, usize::from(count));
     Ok(count)
 }

@@ -15,10 +15,7 @@ use refusals::Refusal;
 fn is_fitting(keys: Keys, count: usize) -> bool
     ensures { result ≡ rack_fits (record { count = count; keys = keys }) }
 {
-    1 <= count
-        && count <= MOST
-        && is_rising(&keys[..count])
-        && is_zero(keys[count..].as_flattened())
+    1 <= count && count <= MOST && is_rising(keys, count) && is_zero(keys[count..].as_flattened())
 }
 
 // Writes a rack into the first bytes of an area, or nothing changes: the contents are none that reading gives, or the area is too short for them.

@@ -1,13 +1,11 @@
-use mathlib.Core.Path.{◌≡◌, sym, ap, ap₂, ◌∙◌}
+use mathlib.Core.Path.{◌≡◌, sym, ap, ◌∙◌}
 use mathlib.Core.Bool.{true}
 use mathlib.Core.List.{List, ◌++◌}
 use Prim.Native.Nat.{ℕ, ◌-◌}
-use native.Mathlib.Omega.{arith}
-use lib.ListN.{length, get_or, drop, replicate}
+use lib.ListN.{get_or, drop, replicate}
 use Rattle.refusals.specs.{accepted}
 use Rattle.octets.specs.Strings.{pieces}
 use Rattle.octets.specs.Layouts.{holds}
-use Rattle.octets.proofs.Pieces.{pieces-length}
 use Rattle.rack.specs.Racks.{most, key_bytes, rack_layout, rack_cut}
 use Rattle.rack.proofs.Racks.{cut_keys, holds_few, holds_length}
 use Rattle.rack.proofs.RackTrips.{reading_good}
@@ -18,27 +16,13 @@ use Rattle.rack.proofs.reading.read_rack.Goals.{Else-not-is_rack}
 good : (c : Else-not-is_rack) → holds rack_layout c.args.s.now ≡ true
 good c = sym c.is_rack.ensures ∙ c.if-not-is_rack.false
 
-pub placed-requires : goal.placed-requires
-placed-requires c =
-    let s = c.args.s.now in
-    omega (
-      arith,
-      ap length c.keys_in.ensures,
-      pieces-length key_bytes c.from.result (drop 1 s),
-      c.from.ensures,
-      holds_few s (good (goal.at.placed-requires c).Else-not-is_rack),
-    )
-
 pub returns : goal.returns
 unfolding rack_cut
 returns c =
     let s = c.args.s.now in
     let h = good (goal.at.returns c).Else-not-is_rack in
     let n = get_or s 0 0 in
-    let first : c.keys_in.result.now ≡ pieces key_bytes n (drop 1 s) = c.keys_in.ensures ∙ ap (λ (k : ℕ). pieces key_bytes k (drop 1 s)) c.from.ensures in
-    let long : length c.keys_in.result.now ≡ n = ap length first ∙ pieces-length key_bytes n (drop 1 s) in
-    let keys = c.placed.ensures
-    ∙ ap₂ (λ (k : List (List ℕ)) (m : ℕ). k ++ replicate (most - m) (replicate key_bytes 0)) first long
-    ∙ sym (cut_keys s n (holds_few s h) (holds_length s h)) in
+    let padded = λ (m : ℕ). pieces key_bytes m (drop 1 s) ++ replicate (most - m) (replicate key_bytes 0) in
+    let keys = c.taken_apart.ensures ∙ ap padded c.from.ensures ∙ sym (cut_keys s n (holds_few s h) (holds_length s h)) in
     ap (λ (k : List (List ℕ)). record { answer = accepted; count = n; keys = k }) keys
     ∙ sym (reading_good s h c.args.keys.now)
