@@ -17,9 +17,6 @@ pub returns-then-count_in-guess : goal.returns-then-count_in-guess
 unfolding each
 returns-then-count_in-guess c = (omega arith, refl)
 
-pub is_after-requires : goal.is_after-requires
-is_after-requires c = (c.requires, omega (arith, c.count_in.ensures))
-
 pub returns-then-is_after : goal.returns-then-is_after
 unfolding each
 returns-then-is_after c = (omega arith, refl)

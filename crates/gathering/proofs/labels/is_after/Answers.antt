@@ -1,5 +1,3 @@
-use mathlib.Core.Path.{ap, ◌∙◌}
-use Rattle.octets.specs.Strings.{before}
 use Rattle.roll.specs.Roll.{roll_layout}
 use Rattle.roll.proofs.Spreads.{roll_spread, has_place}
 use Rattle.gathering.proofs.labels.is_after.Goals as goal
@@ -9,6 +7,3 @@ unfolding roll_layout
 label_in-requires c =
     let s = roll_spread c.args.roll.now c.requires.0 in
     (s, has_place c.args.roll.now s c.args.q c.requires.1)
-
-pub returns : goal.returns
-returns c = c.is_before.ensures ∙ ap (before c.args.last) c.label_in.ensures

@@ -8,9 +8,6 @@ use Rattle.gathering.proofs.Nearest.{roll_fits, stays, nearest_found}
 use Rattle.gathering.proofs.labels.nearest_in.Goals as goal
 use Rattle.gathering.proofs.labels.nearest_in.Goals.{Else-p-count_in}
 
-pub place_after-p-requires : goal.place_after-p-requires
-place_after-p-requires c = c.requires
-
 pub count_in-requires : goal.count_in-requires
 count_in-requires c = roll_spread c.args.roll.now c.requires
 

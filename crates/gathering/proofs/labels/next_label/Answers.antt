@@ -12,9 +12,6 @@ use Rattle.gathering.proofs.Walks.{roll_holds, next_next}
 use Rattle.gathering.proofs.labels.next_label.Goals as goal
 use Rattle.gathering.proofs.labels.next_label.Goals.{In-Some}
 
-pub of-roll-items-requires : goal.of-roll-items-requires
-of-roll-items-requires c = (omega (arith, c.requires.within), c.requires.short)
-
 pub loop-roll-init : goal.loop-roll-init
 unfolding next_of
 loop-roll-init c =

@@ -15,9 +15,6 @@ use Rattle.gathering.proofs.Walks.{roll_holds, highest_next}
 use Rattle.gathering.proofs.old.highest.Goals as goal
 use Rattle.gathering.proofs.old.highest.Goals.{In-Some}
 
-pub of-roll-items-requires : goal.of-roll-items-requires
-of-roll-items-requires c = (omega (arith, c.requires.within), c.requires.short)
-
 pub loop-roll-init : goal.loop-roll-init
 unfolding highest_of
 loop-roll-init c =

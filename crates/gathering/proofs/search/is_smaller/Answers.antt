@@ -10,11 +10,6 @@ use Rattle.gathering.proofs.search.is_smaller.Goals as goal
 pub row_at-requires : goal.row_at-requires
 row_at-requires c = (row_lies c.args.roll.now c.requires.0 c.args.i c.requires.1).1
 
-pub is_label_before-requires : goal.is_label_before-requires
-is_label_before-requires c =
-    let lies = (row_lies c.args.roll.now c.requires.0 c.args.i c.requires.1).0 in
-    (omega (arith, c.row_at.ensures, lies), omega (arith, c.told-label))
-
 pub returns : goal.returns
 unfolding roll_layout
 returns c =
