@@ -1,6 +1,5 @@
 // The heading, the lines and the totals.
 ghost use Rattle.std.specs.Prelude.{◌++◌, ◌+◌, ◌*◌, ◌≤◌, length, take};
-ghost use Rattle.night.specs.Lines.{most_labels};
 ghost use Rattle.report.specs.Text.{decimal_of, Placed};
 ghost use Rattle.report.specs.Printed.{newline, spaced, top_text, line_text, lines_text, over_name, damaged_name, totals_text, printed, most_text};
 
@@ -92,7 +91,7 @@ fn put_totals(area: &mut [u8], at: usize, totals: Totals) -> usize
 
 // The lines and the totals.
 fn put_body(area: &mut [u8], at: usize, night: &Night) -> usize
-    requires { (night.now.known ≤ most_labels) × (at + 6173 ≤ length area.old) }
+    requires { at + 6173 ≤ length area.old }
     ensures placed { Placed result at area.old area.new (lines_text (take night.now.known night.now.lines) ++ totals_text night.now.totals) }
     ensures upper_bound { result ≤ at + 6173 }
 {
@@ -102,7 +101,7 @@ fn put_body(area: &mut [u8], at: usize, night: &Night) -> usize
 
 // The whole report at the front of an area; answers how many bytes it has.
 pub fn print(night: &Night, area: &mut [u8]) -> usize
-    requires { (night.now.known ≤ most_labels) × (most_text ≤ length area.old) }
+    requires { most_text ≤ length area.old }
     ensures placed { Placed result 0 area.old area.new (printed night.now) }
     ensures upper_bound { result ≤ most_text }
 {

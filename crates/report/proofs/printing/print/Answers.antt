@@ -6,15 +6,7 @@ use mathlib.Core.List.{◌++◌}
 use Rattle.report.proofs.printing.print.Goals as goal
 
 pub put_body-requires : goal.put_body-requires
-put_body-requires c = (
-  c.requires.0,
-  omega (
-    arith,
-    c.put_text-behind.ensures.next,
-    c.put_text-behind.auto.area,
-    c.requires.1,
-  ),
-)
+put_body-requires c = omega (arith, c.put_text-behind.ensures.next, c.put_text-behind.auto.area, c.requires)
 
 pub returns : goal.returns
 unfolding printed
@@ -25,6 +17,6 @@ returns c =
     let b = c.put_body in
     record {
       placed = placed_then 0 heading (lines_text (take n.known n.lines) ++ totals_text n.totals) _ _ _ _ _ t.ensures b.ensures.placed
-          (omega (arith, t.ensures.next, b.ensures.placed.next, b.ensures.upper_bound, o.requires.1));
+          (omega (arith, t.ensures.next, b.ensures.placed.next, b.ensures.upper_bound, o.requires));
       upper_bound = omega (arith, t.ensures.next, b.ensures.upper_bound);
     }
