@@ -1,5 +1,4 @@
-use mathlib.Core.Path.{◌≡◌, refl, sym, ap, ◌∙◌}
-use native.Mathlib.Omega.{arith}
+use mathlib.Core.Path.{refl, sym, ap, ◌∙◌}
 use Rattle.store.specs.Area.{block_at, newer, newest}
 use Rattle.store.specs.declared.Newest.{Newest}
 use Rattle.store.proofs.Places.{newest_next}
@@ -14,10 +13,3 @@ loop-i-preserved c =
     let a = c.args in
     let l = c.loop-i in
     c.newer_at-found.ensures ∙ ap (λ (f : Newest). newer a.label.now f (block_at a.area.now l.i)) l.invariant ∙ sym (newest_next a.area.now a.label.now l.i)
-
-pub returns : goal.returns
-returns c =
-    let a = c.args in
-    let l = c.loop-i in
-    let e : l.i ≡ a.n = omega arith in
-    l.invariant ∙ ap (newest a.area.now a.label.now) e

@@ -2,7 +2,6 @@ use mathlib.Core.Path.{sym, ap₂, ◌∙◌}
 use mathlib.Core.List.{List}
 use Prim.Native.Nat.{ℕ}
 use native.Mathlib.Omega.{arith}
-use lib.ListN.{length-take}
 use Rattle.cabinet.specs.Block.{label_in, height_in, tail_in}
 use Rattle.store.proofs.Places.{newer_stays, newer_other, newer_moves}
 use Rattle.store.proofs.standing.newer.Goals as goal
@@ -12,9 +11,6 @@ unfolding height_in
 returns-then-height-found c =
     let a = c.args in
     sym (newer_stays a.label.now a.found a.b.now (omega (arith, c.number_at-height.ensures)))
-
-pub slice_bounds-is_same-end : goal.slice_bounds-is_same-end
-slice_bounds-is_same-end c = simp length-take (omega arith)
 
 pub returns-then-not-is_same : goal.returns-then-not-is_same
 unfolding label_in
