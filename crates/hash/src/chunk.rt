@@ -12,8 +12,8 @@ use crate::turn::{first_rounds, last_rounds};
 use octets::word_at;
 
 // The sixteen words of a chunk are the first of the schedule.
-fn fill(w: &mut [u32; 16], chunk: &[u8])
-    requires { length chunk.now ≡ 64 }
+fn fill(w: &mut [u32], chunk: &[u8])
+    requires { (length w.old ≡ 16) × (length chunk.now ≡ 64) }
     ensures { w.new ≡ words 4 chunk.now 16 }
 {
     for (t, word) in w.iter_mut().enumerate() {
@@ -54,8 +54,8 @@ fn sums(h: [u32; 8], s: Working) -> [u32; 8]
 }
 
 // The hash value after one chunk.
-fn compress(h: [u32; 8], w: &mut [u32; 16], table: &Table, chunk: &[u8]) -> [u32; 8]
-    requires { length chunk.now ≡ 64 }
+fn compress(h: [u32; 8], w: &mut [u32], table: &Table, chunk: &[u8]) -> [u32; 8]
+    requires { (length w.old ≡ 16) × (length chunk.now ≡ 64) }
     ensures { result ≡ compressed sha_256 h (words 4 chunk.now 16) }
 {
     fill(w, chunk);
@@ -65,7 +65,8 @@ fn compress(h: [u32; 8], w: &mut [u32; 16], table: &Table, chunk: &[u8]) -> [u32
 
 // The hash value after the whole chunks of a string. The constants are copied once, since each use of the table copies it whole.
 // `next` stays: the checker has no proof where a call's array goes into a variable that is there already.
-pub fn absorb(h: [u32; 8], w: &mut [u32; 16], s: &[u8]) -> [u32; 8]
+pub fn absorb(h: [u32; 8], w: &mut [u32], s: &[u8]) -> [u32; 8]
+    requires { length w.old ≡ 16 }
     ensures { result ≡ absorbed sha_256 h s.now (length s.now / 64) }
 {
     let table = Table { k: K };

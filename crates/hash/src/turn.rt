@@ -1,5 +1,5 @@
 // The rounds of SHA-256, with sixteen words of the schedule: word t stands in place t mod 16.
-ghost use Rattle.std.specs.Prelude.{◌≡◌, ◌+◌, ◌<◌, ◌≤◌};
+ghost use Rattle.std.specs.Prelude.{◌≡◌, ◌+◌, ◌<◌, ◌≤◌, length};
 ghost use Rattle.hash.specs.Sha256.{sha_256};
 ghost use Rattle.hash.specs.Turns.{eight, stage, word_after, reads, turn, steps};
 
@@ -8,8 +8,8 @@ use crate::round::{Working, one_round};
 use crate::word::lower_sigma;
 
 // Round t, with its constant and the word in its place.
-fn round_at(s: Working, w: &[u32; 16], table: &Table, t: usize) -> Working
-    requires { t < 64 }
+fn round_at(s: Working, w: &[u32], table: &Table, t: usize) -> Working
+    requires { (t < 64) × (length w.now ≡ 16) }
     ensures { eight result ≡ reads sha_256 w.now (eight s) t }
 {
     one_round(s, table.k[t], w[t % 16])
@@ -17,8 +17,8 @@ fn round_at(s: Working, w: &[u32; 16], table: &Table, t: usize) -> Working
 
 // Word t + 16 of the schedule, from the sixteen before it.
 #[tactic(auto, unfolding(crate::specs::Words::plus, crate::specs::Turns::word_after, crate::specs::Sha256::sha_256))]
-fn word_after(w: &[u32; 16], t: usize) -> u32
-    requires { t < 48 }
+fn word_after(w: &[u32], t: usize) -> u32
+    requires { (t < 48) × (length w.now ≡ 16) }
     ensures { result ≡ word_after sha_256 w.now t }
 {
     let sum = lower_sigma::<17, 19, 10>(w[(t + 14) % 16]).wrapping_add(w[(t + 9) % 16]);
@@ -27,8 +27,8 @@ fn word_after(w: &[u32; 16], t: usize) -> u32
 }
 
 // Round t reads word t, and word t + 16 goes into its place.
-fn one_turn(s: Working, w: &mut [u32; 16], table: &Table, t: usize) -> Working
-    requires { t < 48 }
+fn one_turn(s: Working, w: &mut [u32], table: &Table, t: usize) -> Working
+    requires { (t < 48) × (length w.old ≡ 16) }
     ensures { stage w.new result ≡ turn sha_256 (stage w.old s) t }
 {
     let next = round_at(s, w, table, t);
@@ -38,8 +38,8 @@ fn one_turn(s: Working, w: &mut [u32; 16], table: &Table, t: usize) -> Working
 
 // Sixteen turns. They begin at a multiple of sixteen, so the optimiser knows each place, and the working variables need no moves. The calls stay written out:
 // in a loop, or four loops of four, the hash takes 1.24 or 1.33 times as long (bench/README.md, "What limits the speed").
-fn sixteen_turns(s: Working, w: &mut [u32; 16], table: &Table, t: usize) -> Working
-    requires { t + 16 ≤ 48 }
+fn sixteen_turns(s: Working, w: &mut [u32], table: &Table, t: usize) -> Working
+    requires { (t + 16 ≤ 48) × (length w.old ≡ 16) }
     ensures { stage w.new result ≡ steps (turn sha_256) (stage w.old s) t 16 }
 {
     let s1 = one_turn(s, w, table, t);
@@ -61,7 +61,8 @@ fn sixteen_turns(s: Working, w: &mut [u32; 16], table: &Table, t: usize) -> Work
 }
 
 // The first forty-eight rounds, each of which leaves a word for a later one.
-pub fn first_rounds(s: Working, w: &mut [u32; 16], table: &Table) -> Working
+pub fn first_rounds(s: Working, w: &mut [u32], table: &Table) -> Working
+    requires { length w.old ≡ 16 }
     ensures { stage w.new result ≡ steps (turn sha_256) (stage w.old s) 0 48 }
 {
     let mut state = s;
@@ -72,8 +73,8 @@ pub fn first_rounds(s: Working, w: &mut [u32; 16], table: &Table) -> Working
 }
 
 // Four rounds, which the compiler unrolls; a loop over all sixteen takes 1.05 times as long.
-fn four_rounds(s: Working, w: &[u32; 16], table: &Table, t: usize) -> Working
-    requires { t + 4 ≤ 64 }
+fn four_rounds(s: Working, w: &[u32], table: &Table, t: usize) -> Working
+    requires { (t + 4 ≤ 64) × (length w.now ≡ 16) }
     ensures { eight result ≡ steps (reads sha_256 w.now) (eight s) t 4 }
 {
     let mut state = s;
@@ -84,7 +85,8 @@ fn four_rounds(s: Working, w: &[u32; 16], table: &Table, t: usize) -> Working
 }
 
 // The last sixteen rounds.
-pub fn last_rounds(s: Working, w: &[u32; 16], table: &Table) -> Working
+pub fn last_rounds(s: Working, w: &[u32], table: &Table) -> Working
+    requires { length w.now ≡ 16 }
     ensures { eight result ≡ steps (reads sha_256 w.now) (eight s) 48 16 }
 {
     let mut state = s;

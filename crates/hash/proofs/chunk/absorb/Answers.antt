@@ -12,14 +12,14 @@ unfolding absorbed
 loop-chunk-init c =
     let e = c.into_iter-chunk-iterator.ensures.into_iter_gives in
     let f = c.chunks_exact-chunk-items.ensures in
-    record { size = rw e f.size; within = omega arith; rest = rw e f.rest; so_far = refl }
+    record { places = c.requires; size = rw e f.size; within = omega arith; rest = rw e f.rest; so_far = refl }
 
 pub invariant_of-table : goal.invariant_of-table
 unfolding constants
 invariant_of-table c = record { as_printed = refl }
 
 pub compress-next-requires : goal.compress-next-requires
-compress-next-requires c = c.in-Some.ensures.steps.1.1 ∙ c.loop-chunk.invariant.size
+compress-next-requires c = (c.loop-chunk.invariant.places, c.in-Some.ensures.steps.1.1 ∙ c.loop-chunk.invariant.size)
 
 pub loop-chunk-preserved : goal.loop-chunk-preserved
 unfolding word_bytes chunk_bytes sha_256
@@ -34,6 +34,7 @@ loop-chunk-preserved c =
     ap length step.1.0 ∙ length-append c.in-Some.chunk.now c.next.new.self.rest.now ∙ ap (λ (k : ℕ). k + length c.next.new.self.rest.now) whole in
     rw more
     (record {
+      places = c.compress-next.auto.w ∙ l.invariant.places;
       size = step.0 ∙ l.invariant.size;
       within = omega (arith, room, ap length l.invariant.rest, length-drop (64 * n) s);
       rest = left_part sha_256 c.args.h s l.chunk-iterator.rest.now c.in-Some.chunk.now c.next.new.self.rest.now n l.invariant.rest step.1.0 whole;

@@ -6,6 +6,7 @@ use Rattle.hash.proofs.chunk.absorb.Given as goal
 abbrev pub invariant-loop-chunk : goal.invariant-loop-chunk
 invariant-loop-chunk l =
     record {
+      places : length l.w ≡ 16;
       size : l.chunk-iterator.size ≡ 64;
       within : 64 * length l.yielded ≤ length l.s;
       rest : l.chunk-iterator.rest.now ≡ drop (64 * length l.yielded) l.s;
