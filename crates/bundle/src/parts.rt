@@ -6,6 +6,7 @@ use crate::walks::{first_list, list_at, new_at, next_list, next_old, old_at};
 use crate::{LIST_HEAD, OLD_HEAD};
 
 // The roll blocks of old entry i.
+#[tactic(auto, using(crate::proofs::Places::old_next, crate::proofs::Places::old_step, crate::proofs::Places::roll_part))]
 pub fn old_roll(s: &[u8], i: usize) -> &[u8]
     requires { (old_at s.now (i + 1) ≤ length s.now) × (length s.now ≤ longest_bundle) }
     ensures { result.now ≡ old_roll s.now i }
@@ -27,6 +28,7 @@ pub fn new_entries(s: &[u8]) -> &[u8]
 }
 
 // The entry digests of list j.
+#[tactic(auto, using(crate::proofs::Places::list_next, crate::proofs::Places::list_step, crate::proofs::Places::digests_part))]
 pub fn digests(s: &[u8], j: usize) -> &[u8]
     requires { (list_at s.now (j + 1) ≤ length s.now) × (length s.now ≤ longest_bundle) }
     ensures { result.now ≡ digests s.now j }
