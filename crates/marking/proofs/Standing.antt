@@ -7,10 +7,12 @@ use native.Mathlib.Omega.{arith}
 use borrow.Author.Tests.{eq-eqb, ne_eqb, le-ltb, le-leb, lt-leb, leb-true, ltb-true}
 use lib.ListN.{length, get_or-eq_default}
 use lib.Dec.{eqb, leb, ltb}
+use Rattle.std.specs.Prelude.{Some}
 use Rattle.std.specs.Bool.{then_some}
 use Rattle.octets.proofs.RoundTrips.{and_left, and_right}
 use Rattle.rules.specs.Bundle.{longest_bundle, old_count, old_at, new_at, new_count}
 use Rattle.rules.specs.Check.{old_list, new_list, entries_of}
+use Rattle.bundle.proofs.Listed.{then_is}
 use Rattle.bundle.proofs.Places.{old_next}
 use Rattle.marking.specs.Entry.{entry_at, has_entry}
 
@@ -91,3 +93,10 @@ module _ (s : List ℕ) (list i : ℕ) where
     -- position and marks stand within
     pub has_within : entry_at s list i + 1 < length s
     has_within = omega (arith, next_after, has_end)
+
+-- where the search finds an entry: the string is short, and position and marks stand within
+pub found_within :
+    (s : List ℕ) (list i at : ℕ) → Some at ≡ then_some (has_entry s list i) (entry_at s list i) → (length s ≤ longest_bundle) × (at + 1 < length s)
+found_within s list i at e =
+    let p = then_is _ _ _ e in
+    (has_short s list i p.0, omega (arith, p.1, has_within s list i p.0))

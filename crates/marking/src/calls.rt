@@ -7,6 +7,7 @@ use crate::entry::find_entry;
 use refusals::{ACCEPTED, Refusal};
 
 // The position in its rack of an entry of a list.
+#[tactic(auto, using(crate::proofs::Standing::found_within))]
 #[unsafe(no_mangle)]
 pub extern "C" fn mahqurith_bundle_position(bundle: &[u8], list: u8, number: u64) -> Position
     ensures { result ≡ positioned bundle.now list number }
@@ -24,6 +25,7 @@ pub extern "C" fn mahqurith_bundle_position(bundle: &[u8], list: u8, number: u64
 }
 
 // Sets the marks of an entry of a list.
+#[tactic(auto, using(crate::proofs::Standing::found_within))]
 #[unsafe(no_mangle)]
 pub extern "C" fn mahqurith_bundle_mark(bundle: &mut [u8], list: u8, number: u64, marks: u8) -> u32
     ensures { record { answer = result; bundle = bundle.new } ≡ marking bundle.old list number marks }

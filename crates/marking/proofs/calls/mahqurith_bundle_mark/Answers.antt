@@ -1,23 +1,9 @@
 use mathlib.Core.Path.{sym, ap, ◌∙◌}
 use Prim.Native.Nat.{ℕ, ◌+◌}
-use native.Mathlib.Omega.{arith}
 use Rattle.bundle.proofs.Listed.{then_none, then_is}
-use Rattle.marking.proofs.Standing.{has_short, has_within}
 use Rattle.marking.proofs.Told.{no_entry, no_marks, marks_set}
 use Rattle.marking.proofs.calls.mahqurith_bundle_mark.Goals as goal
 use Rattle.marking.proofs.calls.mahqurith_bundle_mark.Goals.{in_default-via-in-Some+else-is_marks, in_default-via-in_default}
-
-pub overflow_add-bundle : goal.overflow_add-bundle
-overflow_add-bundle c =
-    let a = c.args in
-    let p = then_is _ _ _ c.in-Some.ensures in
-    omega (arith, p.1, has_within a.bundle.now a.list a.number p.0, has_short a.bundle.now a.list a.number p.0)
-
-pub bounds-bundle-at : goal.bounds-bundle-at
-bounds-bundle-at c =
-    let a = c.args in
-    let p = then_is _ _ _ c.in-Some.ensures in
-    omega (arith, p.1, has_within a.bundle.now a.list a.number p.0)
 
 pub returns-in-Some : goal.returns-in-Some
 returns-in-Some c =

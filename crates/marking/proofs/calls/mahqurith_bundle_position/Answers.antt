@@ -1,14 +1,6 @@
-use native.Mathlib.Omega.{arith}
 use Rattle.bundle.proofs.Listed.{then_none, then_is}
-use Rattle.marking.proofs.Standing.{has_within}
 use Rattle.marking.proofs.Told.{no_position, the_position}
 use Rattle.marking.proofs.calls.mahqurith_bundle_position.Goals as goal
-
-pub bounds-bundle-at : goal.bounds-bundle-at
-bounds-bundle-at c =
-    let a = c.args in
-    let p = then_is _ _ _ c.in-Some.ensures in
-    omega (arith, p.1, has_within a.bundle.now a.list a.number p.0)
 
 pub returns-in-Some : goal.returns-in-Some
 returns-in-Some c =
