@@ -1,5 +1,5 @@
 // The labels of the old rolls in order: the first after another.
-ghost use Rattle.std.specs.Prelude.{◌≡◌, true, ◌<◌, ◌≤◌};
+ghost use Rattle.std.specs.Prelude.{◌≡◌, true, ◌<◌, ◌≤◌, MatchOption};
 ghost use Rattle.octets.specs.Layouts.{holds};
 ghost use Rattle.octets.specs.Strings.{before};
 ghost use Rattle.rows.specs.Row.{label_of};
@@ -52,19 +52,19 @@ fn guessed(roll: &[u8], last: [u8; LABEL], guess: usize) -> usize
     guess
 }
 
-// How many rows of a roll do not come after `last`.
-fn place_after(roll: &[u8], last: [u8; LABEL], guess: usize) -> usize
+// The first row of a roll that comes after `last`.
+fn place_after(roll: &[u8], last: [u8; LABEL], guess: usize) -> Option<usize>
     requires { holds roll_layout roll.now ≡ true }
-    ensures { (result ≤ (roll_layout.cut roll.now).count) × (each (up_to (roll_layout.cut roll.now).rows last) result ≡ true)
-        × (result < (roll_layout.cut roll.now).count → before last (label_of (roll_layout.cut roll.now).rows result) ≡ true) }
+    ensures { MatchOption result (each (up_to (roll_layout.cut roll.now).rows last) (roll_layout.cut roll.now).count ≡ true)
+        (λ q. (q < (roll_layout.cut roll.now).count) × (before last (label_of (roll_layout.cut roll.now).rows q) ≡ true)
+        × (each (up_to (roll_layout.cut roll.now).rows last) q ≡ true)) }
 {
-    let count = count_in(roll);
-    for q in guessed(roll, last, guess)..count {
+    for q in guessed(roll, last, guess)..count_in(roll) {
         if is_after(roll, q, last) {
-            return q;
+            return Some(q);
         }
     }
-    count
+    None
 }
 
 // What was found, or a label of a roll that is nearer after `last`: since labels rise, the first after it.
@@ -72,11 +72,10 @@ fn nearest_in(roll: &[u8], last: [u8; LABEL], best: [u8; LABEL], guess: usize) -
     requires { holds roll_layout roll.now ≡ true }
     ensures { result ≡ nearest_in (roll_layout.cut roll.now) last best (roll_layout.cut roll.now).count }
 {
-    let p = place_after(roll, last, guess);
-    if p == count_in(roll) {
-        return best;
+    match place_after(roll, last, guess) {
+        Some(q) => nearer(last, best, label_in(roll, q)),
+        None => best,
     }
-    nearer(last, best, label_in(roll, p))
 }
 
 // The first label of the old rolls after `last`, or zeros; each roll is looked into from a guessed row on.

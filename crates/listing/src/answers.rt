@@ -29,8 +29,7 @@ pub fn digest_for(store: &[u8], label: [u8; LABEL], height: u64) -> [u8; DIGEST]
     ensures { result ≡ entry_digest store.now label height }
 {
     let blocks = store.len() / BLOCK;
-    let only = only_block(store, &label, height, blocks);
-    if only < blocks {
+    if let Some(only) = only_block(store, &label, height, blocks) {
         return digest_at(store, only);
     }
     digest_at(store, first_answer(store, &label, height, blocks).unwrap())

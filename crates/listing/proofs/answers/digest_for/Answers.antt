@@ -7,7 +7,7 @@ use Rattle.cabinet.specs.Block.{digest_in}
 use Rattle.store.specs.Area.{blocks, block_at}
 use Rattle.store.proofs.Places.{among_some}
 use Rattle.store.specs.Read.{first_answer}
-use Rattle.listing.proofs.Answered.{answering, place_within, place_has, digest_there}
+use Rattle.listing.proofs.Answered.{answering, place_within, place_lies, place_has, digest_there}
 use Rattle.listing.proofs.answers.digest_for.Goals as goal
 use Rattle.listing.proofs.answers.digest_for.Goals.{Start}
 
@@ -16,15 +16,15 @@ there : (s : Start) → first_answer s.args.store.now s.args.label s.args.height
     → ⊥
 there s = answering s.args.store.now s.args.label s.args.height s.requires.0 s.requires.1
 
-pub returns-then-only-blocks : goal.returns-then-only-blocks
+pub returns-in-Some : goal.returns-in-Some
 unfolding blocks
-returns-then-only-blocks c =
-    let s = (goal.at.returns-then-only-blocks c).Start in
+returns-in-Some c =
+    let s = (goal.at.returns-in-Some c).Start in
     let a = s.args in
     let n = there s in
     let within = place_within a.store.now a.label a.height s.requires.0 in
-    let same = c.only_block-only.ensures _ c.if-only-blocks.true (omega (arith, within, n))
-    (place_has a.store.now a.label a.height s.requires.0 n) in
+    let only = rw c.in-Some.is at c.only_block.ensures in
+    let same = only.1 _ (omega (arith, within, n)) (place_has a.store.now a.label a.height s.requires.0 n) in
     c.digest_at.ensures ∙ ap (λ (i : ℕ). digest_in (block_at a.store.now i)) (sym same)
     ∙ sym (digest_there a.store.now a.label a.height s.requires.0 n)
 
@@ -37,6 +37,13 @@ unwrap-requires c =
     let n = there s in
     let place = first_answer a.store.now a.label a.height (blocks a.store.now) in
     rw (c.first_answer.ensures, lt-ltb place (blocks a.store.now) (omega (arith, within, n))) (search rules)
+
+pub digest_at-requires-2 : goal.digest_at-requires-2
+unfolding blocks
+digest_at-requires-2 c =
+    let s = (goal.at.digest_at-requires-2 c).Start in
+    let at = among_some _ _ _ (sym c.first_answer.ensures ∙ c.unwrap.ensures) in
+    omega (arith, at.0, place_lies s.args.store.now s.args.label s.args.height s.requires.0 (there s))
 
 pub returns : goal.returns
 unfolding blocks
