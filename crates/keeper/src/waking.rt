@@ -8,7 +8,7 @@ use rows::MOST;
 use rules::{Answer, Head};
 use table::{Asked, Row, other_length, rows_clear, rows_typed};
 
-// The record becomes blank, with this key, whatever it was.
+// The record becomes blank, with this key, whatever it was. It stays apart from `change_rows`, which would read and write the table's bytes besides.
 #[unsafe(no_mangle)]
 pub extern "C" fn mahqurith_wake(h: &mut Head, rows: &mut [Row], asked: Asked) -> Answer
     ensures { record { answer = result; head = h.new; rows = rows.new; area = [] } ≡ over_rows (λ k. waking k asked.key) h.old rows.old [] }

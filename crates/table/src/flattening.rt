@@ -9,7 +9,7 @@ use crate::lent::{flat_in, rows_out};
 use octets::{array_at, copy_at, number_at, put_number};
 use rows::{LABEL, MOST, ROW, TABLE, TAIL};
 
-// Puts a row's bytes in the place of row i.
+// Puts a row's bytes in the place of row i. It stays beside no `From`: the bytes are written where they are to stand.
 pub fn put_row(bytes: &mut [u8], i: usize, row: Row)
     requires { row_bytes * i + row_bytes ≤ length bytes.old }
     ensures { bytes.new ≡ put bytes.old (row_bytes * i) (row_string row) }

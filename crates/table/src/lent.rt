@@ -38,6 +38,7 @@ pub fn rows_out(rows: &mut [Row], bytes: &[u8], places: Range<usize>)
     requires { (length rows.old ≡ most_rows) × (length bytes.now ≡ table_bytes) × (places.start ≤ places.end) × (places.end ≤ most_rows) }
     ensures { rows.new ≡ rows_put places.start places.end rows.old (rows_of most_rows bytes.now) }
 {
+    // The index stays: it is the place in both.
     for i in places.start..places.end {
         rows[i] = row_at(bytes, i);
     }

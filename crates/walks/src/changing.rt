@@ -11,6 +11,7 @@ use table::{Left, Row, flat_in, other_length, rows_out, rows_typed};
 pub trait ChangesRows {
     ghost rule: { Self → Lent → Outcome };
 
+    // A method stays, and no const: of a const the check has no clause where a struct has a lifetime.
     ghost size: { ℕ };
 
     fn size(&self) -> usize
