@@ -5,7 +5,7 @@ ghost use Rattle.rules.specs.Bundle.{longest_bundle, old_at, old_roll, new_entri
 use crate::walks::{first_list, list_at, new_at, next_list, next_old, old_at};
 use crate::{LIST_HEAD, OLD_HEAD};
 
-// The roll blocks of old entry i.
+// The roll blocks of old entry i. This and `digests` stay two functions: what they share is one line, over two walks.
 #[tactic(auto, using(crate::proofs::Places::old_next, crate::proofs::Places::old_step, crate::proofs::Places::roll_part))]
 pub fn old_roll(s: &[u8], i: usize) -> &[u8]
     requires { (old_at s.now (i + 1) ≤ length s.now) × (length s.now ≤ longest_bundle) }

@@ -30,6 +30,7 @@ pub fn parted<F: Fn(usize) -> bool>(count: usize, is_smaller: F) -> usize
 {
     let mut low = 0;
     let mut high = count;
+    // This `while` stays: each half moves one of the two ends, which no iterator does.
     while low < high {
         let middle = low + (high - low) / 2;
         if is_smaller(middle) {

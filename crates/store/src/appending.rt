@@ -70,7 +70,8 @@ fn append(area: &mut [u8], asked: Place, text: &[u8]) -> Result<(), Refusal>
 // Appends a text at the height that the label has next.
 #[unsafe(no_mangle)]
 pub extern "C" fn mahqurith_store_append(area: &mut [u8], asked: Place, text: &[u8]) -> Answer
-    ensures { record { number = result.number; written = result.written; height = result.height; area = area.new } ≡ appending area.old asked.label asked.height text.now }
+    ensures { record { number = result.number; written = result.written; height = result.height; area = area.new }
+        ≡ appending area.old asked.label asked.height text.now }
 {
     match append(area, asked, text) {
         Ok(()) => Answer::accepted(0),

@@ -34,7 +34,8 @@ fn read(area: &[u8], asked: Place, output: &mut [u8]) -> Result<usize, Refusal>
 // Copies out the block of a label and a height.
 #[unsafe(no_mangle)]
 pub extern "C" fn mahqurith_store_read(area: &[u8], asked: Place, output: &mut [u8]) -> Answer
-    ensures { record { number = result.number; written = result.written; height = result.height; output = output.new } ≡ reading area.now asked.label asked.height output.old }
+    ensures { record { number = result.number; written = result.written; height = result.height; output = output.new }
+        ≡ reading area.now asked.label asked.height output.old }
 {
     match read(area, asked, output) {
         Ok(written) => Answer::accepted(written),

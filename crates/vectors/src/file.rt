@@ -37,6 +37,7 @@ fn fill(file: &mut impl Read, room: &mut [u8; ROOM]) -> usize
     ensures { IsPrefixLen result room.new }
 {
     let mut done = 0;
+    // This `while` stays: the step is what a read gave.
     while done < ROOM {
         let n = file.read(&mut room[done..]).unwrap_or(0);
         if n == 0 {
