@@ -4,6 +4,7 @@
 // The texts are put by hand, which stays: a `Display` promises nothing where a buffer is full, and `print` promises the whole text on every call.
 
 mod digits;
+mod page;
 mod printing;
 
 pub use printing::print;

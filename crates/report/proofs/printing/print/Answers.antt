@@ -1,22 +1,38 @@
-use Rattle.report.proofs.Texts.{placed_then}
+use mathlib.Core.List.{append_assoc}
+use lib.ListN.{take, length-take}
+use Rattle.std.proofs.Common.{arith, ◌≡◌, ◌++◌, ◌+◌, ◌≤◌, length, ap, subst, ◌∙◌}
+use Rattle.report.specs.Text.{Placed}
 use Rattle.report.specs.Printed.{heading, lines_text, totals_text, printed}
-use lib.ListN.{take}
-use native.Mathlib.Omega.{arith}
-use mathlib.Core.List.{◌++◌}
+use Rattle.report.proofs.Texts.{appended_short, totals_short}
 use Rattle.report.proofs.printing.print.Goals as goal
 
-pub put_body-requires : goal.put_body-requires
-put_body-requires c = omega (arith, c.put_text-behind.ensures.next, c.put_text-behind.auto.area, c.requires)
+pub write-requires : goal.write-requires
+write-requires c =
+    let n = c.night.inside in
+    let z : length c.new-page.result ≡ 0 = ap length c.new-page.ensures in
+    let p : length c.put.new.self ≤ length c.new-page.result + 27 = appended_short _ _ _ 27 c.put.ensures (omega arith) in
+    let l : length c.put_lines.new.self ≤ length c.put.new.self + 6048 =
+    omega (arith, c.put_lines.ensures.upper_bound, c.night.invariant.few, length-take n.known n.lines) in
+    let t : length c.put_totals.new.self ≤ length c.put_lines.new.self + 110 = appended_short _ _ _ 110 c.put_totals.ensures (totals_short _) in
+    omega (arith, c.requires)
 
-pub returns : goal.returns
+pub returns-clause-placed : goal.returns-clause-placed
 unfolding printed
-returns c =
-    let o = c in
-    let n = o.args.night.now in
-    let t = c.put_text-behind in
-    let b = c.put_body in
-    record {
-      placed = placed_then 0 heading (lines_text (take n.known n.lines) ++ totals_text n.totals) _ _ _ _ _ t.ensures b.ensures.placed
-          (omega (arith, t.ensures.next, b.ensures.placed.next, b.ensures.upper_bound, o.requires));
-      upper_bound = omega (arith, t.ensures.next, b.ensures.upper_bound);
-    }
+returns-clause-placed c =
+    let n = c.night.inside in
+    let lines = lines_text (take n.known n.lines) in
+    let front : c.put.new.self ≡ heading = c.put.ensures ∙ ap (λ s. s ++ heading) c.new-page.ensures in
+    let body : c.put_lines.new.self ≡ heading ++ lines = c.put_lines.ensures.text ∙ ap (λ s. s ++ lines) front in
+    let whole : c.put_totals.new.self ≡ heading ++ (lines ++ totals_text n.totals) =
+    c.put_totals.ensures ∙ ap (λ s. s ++ totals_text n.totals) body ∙ append_assoc heading lines (totals_text n.totals) in
+    rw (← c.night.view_is) (subst (λ s. Placed c.write.result 0 c.args.area.now c.write.new.area s) whole c.write.ensures)
+
+pub returns-clause-upper_bound : goal.returns-clause-upper_bound
+returns-clause-upper_bound c =
+    let n = c.night.inside in
+    let z : length c.new-page.result ≡ 0 = ap length c.new-page.ensures in
+    let p : length c.put.new.self ≤ length c.new-page.result + 27 = appended_short _ _ _ 27 c.put.ensures (omega arith) in
+    let l : length c.put_lines.new.self ≤ length c.put.new.self + 6048 =
+    omega (arith, c.put_lines.ensures.upper_bound, c.night.invariant.few, length-take n.known n.lines) in
+    let t : length c.put_totals.new.self ≤ length c.put_lines.new.self + 110 = appended_short _ _ _ 110 c.put_totals.ensures (totals_short _) in
+    omega (arith, c.write.ensures.next)
