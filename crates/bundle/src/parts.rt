@@ -18,6 +18,7 @@ pub fn old_roll(s: &[u8], i: usize) -> &[u8]
 }
 
 // The new entries, pairs of position and marks.
+#[tactic(auto, using(crate::proofs::Places::list_first, crate::proofs::Places::new_part))]
 pub fn new_entries(s: &[u8]) -> &[u8]
     requires { (list_at s.now 0 ≤ length s.now) × (length s.now ≤ longest_bundle) }
     ensures { result.now ≡ new_entries s.now }

@@ -221,3 +221,6 @@ module _ (s : List ℕ) (h : Spread s) where
 
 pub roll_spread : (s : List ℕ) → holds roll_layout s ≡ true → Spread s
 roll_spread s h = record { few = holds_few s h; long = holds_long s h }
+
+-- where a row's parts lie
+pub ruleset row_places = (row_lies, blocks_within)

@@ -21,6 +21,7 @@ pub fn row_at(i: usize) -> usize
 }
 
 // The row count of the whole roll, as its first block says it.
+#[tactic(auto, using(crate::proofs::Blocks::blocks_hold), unfolding(crate::specs::Roll::said_count))]
 pub fn said_count(s: &[u8]) -> u8
     requires { Spread s.now }
     ensures { result ≡ said_count s.now }
@@ -37,6 +38,7 @@ pub fn blocks_in(s: &[u8]) -> usize
 }
 
 // How many rows a roll has.
+#[tactic(auto, unfolding(crate::specs::Roll::roll_layout))]
 pub fn count_in(s: &[u8]) -> usize
     requires { Spread s.now }
     ensures { result ≡ (roll_layout.cut s.now).count }
@@ -44,6 +46,7 @@ pub fn count_in(s: &[u8]) -> usize
     usize::from(said_count(s))
 }
 
+#[tactic(auto, using(crate::proofs::Spreads::row_places, crate::proofs::Spreads::label_cut), unfolding(crate::specs::Roll::roll_layout))]
 pub fn label_in(s: &[u8], i: usize) -> [u8; LABEL]
     requires { Spread s.now × (i < places * blocks (said_count s.now)) }
     ensures { result ≡ label_of (roll_layout.cut s.now).rows i }
@@ -51,6 +54,7 @@ pub fn label_in(s: &[u8], i: usize) -> [u8; LABEL]
     array_at(s, row_at(i))
 }
 
+#[tactic(auto, using(crate::proofs::Spreads::row_places, crate::proofs::Spreads::tail_cut), unfolding(crate::specs::Roll::roll_layout))]
 pub fn tail_in(s: &[u8], i: usize) -> [u8; TAIL]
     requires { Spread s.now × (i < places * blocks (said_count s.now)) }
     ensures { result ≡ tail_of (roll_layout.cut s.now).rows i }
@@ -58,6 +62,7 @@ pub fn tail_in(s: &[u8], i: usize) -> [u8; TAIL]
     array_at(s, row_at(i) + LABEL)
 }
 
+#[tactic(auto, using(crate::proofs::Spreads::row_places, crate::proofs::Spreads::height_stands), unfolding(crate::specs::Roll::roll_layout))]
 pub fn height_in(s: &[u8], i: usize) -> u64
     requires { Spread s.now × (i < places * blocks (said_count s.now)) }
     ensures { result ≡ height_of (roll_layout.cut s.now).rows i }
