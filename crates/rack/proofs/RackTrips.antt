@@ -15,7 +15,7 @@ use Rattle.octets.proofs.RoundTrips.{written_reads, read_writes, holds-written}
 use Rattle.octets.proofs.Pieces.{each_take, each_drop, each_zero, pieces-flatten, pieces_padded}
 use Rattle.rack.specs.Racks.{Rack, most, key_bytes, rack_bytes, rack_written, rack_cut, rack_fits, rack_layout}
 use Rattle.rack.specs.Promise.{Taken, taken, reading}
-use Rattle.rack.proofs.Racks.{first_bytes, fits_few, fits_rest, holds_some, holds_few, holds_length}
+use Rattle.rack.proofs.Racks.{first_bytes, cut_keys, fits_few, fits_rest, holds_some, holds_few, holds_length}
 use Rattle.rack.proofs.Shapes.{Shaped}
 
 -- contents that fit are cut out of what they are written as
@@ -72,6 +72,9 @@ module _ (s : List ℕ) (h : holds rack_layout s ≡ true) where
 pub reading_broken : (s : List ℕ) → holds rack_layout s ≡ false → (keys : List (List ℕ)) → reading s keys ≡ record { answer = rack_broken; count = 0; keys = keys }
 unfolding read taken reading
 reading_broken s h keys = rw h
+
+-- what the check searches with for the call that reads
+pub ruleset of_reading = (cut_keys, holds_few, holds_length, reading_good, reading_broken)
 
 -- the answer alone tells whether the string is a rack
 module _ (s : List ℕ) (keys : List (List ℕ)) where

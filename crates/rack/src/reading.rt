@@ -42,7 +42,7 @@ fn taken_apart(s: &[u8], n: usize) -> Keys
 }
 
 // Whether a string is a rack.
-#[tactic(auto, using(crate::proofs::Racks::holds_by, crate::proofs::Racks::long_few, crate::proofs::Racks::long_length, crate::proofs::Racks::cut_first))]
+#[tactic(auto, using(crate::proofs::Racks::holds_by, crate::proofs::Racks::long_few, crate::proofs::Racks::long_length, crate::proofs::Racks::cut_keys))]
 pub fn is_rack(s: &[u8]) -> bool
     ensures { result ≡ holds rack_layout s.now }
 {
@@ -54,7 +54,7 @@ pub fn is_rack(s: &[u8]) -> bool
 }
 
 // Takes a rack apart into the fifteen places, or the layout is broken and nothing changes.
-#[tactic(auto, using(crate::proofs::Racks::holds_few, crate::proofs::Racks::holds_length, crate::proofs::RackTrips::reading_broken))]
+#[tactic(auto, using(crate::proofs::RackTrips::of_reading), unfolding(crate::specs::Racks::rack_cut))]
 pub fn read_rack(s: &[u8], keys: &mut Keys) -> Result<u8, Refusal>
     ensures { record { answer = answer_of result; count = result_unwrap_or result 0; keys = keys.new } ≡ reading s.now keys.old }
 {
