@@ -5,7 +5,7 @@
 
 ghost use Rattle.std.specs.Prelude.{◌≡◌, ◌+◌, ◌*◌, ◌≤◌, ◌<◌, ◌^◌, length, take, true, IfSome, IfOk, OnOk};
 ghost use Rattle.std.specs.Io.KnownBytes.{Appends, Consumes, IsAtEnd};
-ghost use Rattle.night.specs.Pass.{blocks, passed};
+ghost use Rattle.night.specs.Pass.{Kept, blocks, passed};
 ghost use Rattle.report.specs.Printed.{printed};
 ghost use Rattle.morning.specs.Reading.{StandsAfter, GoesOn, Prints};
 
@@ -81,8 +81,8 @@ fn stands_after<R: Read>(input: &mut R, n: usize) -> io::Result<Stands>
 
 // Reads one piece, and counts its blocks, where no read fails.
 fn read_piece<R: Read>(night: &mut Night, input: &mut R) -> io::Result<Stands>
-    requires { night.old.totals.blocks + 128 < 2 ^ 64 }
-    ensures blocks { night.new.totals.blocks ≤ night.old.totals.blocks + 128 }
+    requires { Kept night.old × (night.old.totals.blocks + 128 < 2 ^ 64) }
+    ensures kept { Kept night.new × (night.new.totals.blocks ≤ night.old.totals.blocks + 128) }
     ensures goes_on { GoesOn 1 (R.remaining input.old) (R.remaining input.new) night.old night.new result }
 {
     let mut piece = [0u8; PIECE];
@@ -108,8 +108,9 @@ fn end_line(rt: &HostRuntime, pieces: u64) {
 
 // Reads all pieces. A file of more pieces than can be counted is one that cannot be read.
 fn read_all<R: Read>(rt: &HostRuntime, input: &mut R, night: &mut Night) -> io::Result<()>
-    requires { night.old.totals.blocks ≡ 0 }
-    ensures { OnOk result (IfSome (R.remaining input.old) (λ file. night.new ≡ passed night.old file (blocks file))) }
+    requires { Kept night.old × (night.old.totals.blocks ≡ 0) }
+    ensures kept { Kept night.new }
+    ensures all { OnOk result (IfSome (R.remaining input.old) (λ file. night.new ≡ passed night.old file (blocks file))) }
 {
     for pieces in 0..MOST_PIECES {
         let blocks = night.totals.blocks;
@@ -129,6 +130,7 @@ fn read_all<R: Read>(rt: &HostRuntime, input: &mut R, night: &mut Night) -> io::
 
 // Writes the report, or answers why not all of it was taken.
 fn write_out<W: Write>(out: &mut W, night: &Night) -> io::Result<()>
+    requires { Kept night.now }
     ensures { OnOk result (Appends (W.contents out.old) (W.contents out.new) (printed night.now)) }
 {
     let mut text = [0u8; PIECE];

@@ -44,7 +44,7 @@ module _ (n : Night) (k : Kept n) where
   unfolding with_damaged
   kept_damaged = record { few = k.few; places = k.places; room = k.room; digested = k.digested; sum = omega (arith, k.sum) }
 
-  pub kept_rack : (b : List ℕ) → key_count b ≤ most → Kept (with_rack n b)
+  kept_rack : (b : List ℕ) → key_count b ≤ most → Kept (with_rack n b)
   unfolding with_rack rack_read
   kept_rack b h =
       record {
@@ -56,7 +56,7 @@ module _ (n : Night) (k : Kept n) where
       }
 
   -- a line counts one receipt more
-  pub kept_known : (i : ℕ) (l : Line) → i < n.known → both l ≡ both (get_or n.lines i no_line) + 1 → Kept (with_line n i n.known l)
+  kept_known : (i : ℕ) (l : Line) → i < n.known → both l ≡ both (get_or n.lines i no_line) + 1 → Kept (with_line n i n.known l)
   kept_known i l h e =
       let ls : List Line = take n.known n.lines in
       let g : get_or ls i no_line ≡ get_or n.lines i no_line = get_or-take n.known n.lines i no_line h in
@@ -71,7 +71,7 @@ module _ (n : Night) (k : Kept n) where
         sum = omega (arith, k.sum);
       }
 
-  pub kept_new : (l : Line) → n.known < most_labels → both l ≡ 1 → Kept (with_line n n.known (n.known + 1) l)
+  kept_new : (l : Line) → n.known < most_labels → both l ≡ 1 → Kept (with_line n n.known (n.known + 1) l)
   kept_new l h e =
       let ls : List Line = take n.known n.lines in
       let u : counted_in (take (n.known + 1) (set n.lines n.known l)) ≡ counted_in ls + both l =

@@ -1,4 +1,3 @@
 -- A night's blocks counted, as the morning report of document 02, M-103, wants them.
-pub mod Counts
 pub mod Lines
 pub mod Pass

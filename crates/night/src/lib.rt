@@ -9,7 +9,6 @@ mod stepping;
 use checks::DIGEST;
 use rack::{KEY_BYTES, MOST};
 use rows::LABEL;
-use std::marker::Model;
 
 // The labels that have a line, at most.
 pub const MOST_LABELS: usize = 63;
@@ -44,26 +43,12 @@ pub struct Nearest {
     pub digest: [u8; DIGEST],
 }
 
-// A night as far as its blocks are counted: the first so many lines are those of the known labels. `Kept` holds of each. The count and the lines stay
-// two fields: `Kept` and `printed` of specs/ speak of them.
+// A night as far as its blocks are counted: the first so many lines are those of the known labels. The count and the lines stay two fields:
+// `Kept` and `printed` of specs/ speak of them.
 #[derive(Clone, Copy)]
 pub struct Night {
     pub totals: Totals,
     pub known: usize,
     pub lines: [Line; MOST_LABELS],
     pub nearest: Nearest,
-}
-
-impl Model for Night {
-    ghost use Rattle.night.specs.Counts.{Counts};
-
-    ghost Value = { Counts };
-
-    ghost use Rattle.night.specs.Pass.{Kept};
-
-    ghost view = { λ n. record { totals = n.totals; known = n.known; lines = n.lines; nearest = n.nearest } };
-
-    ghost invariant = { λ n. Kept (record { totals = n.totals; known = n.known; lines = n.lines; nearest = n.nearest }) };
-
-    ghost inverse = { λ c. record { totals = c.totals; known = c.known; lines = c.lines; nearest = c.nearest } };
 }

@@ -1,7 +1,7 @@
 // A label's line: found, begun, and after a receipt.
 ghost use Rattle.std.specs.Prelude.{◌≡◌, ◌+◌, ◌≤◌, ◌<◌, ◌^◌, take};
 ghost use Rattle.night.specs.Lines as specs;
-ghost use Rattle.night.specs.Lines.{place};
+ghost use Rattle.night.specs.Lines.{most_labels, place};
 
 use crate::{Line, Night};
 use desk::Finding;
@@ -41,6 +41,7 @@ impl Line {
 impl Night {
     // Where the line of a label stands among the known ones, or so many as there are where it has none.
     pub fn place_of(&self, label: [u8; LABEL]) -> usize
+        requires { self.now.known ≤ most_labels }
         ensures { result ≡ place label (take self.now.known self.now.lines) }
     {
         for (i, line) in self.lines[..self.known].iter().enumerate() {

@@ -1,7 +1,7 @@
 // The pass over a string's blocks in turn.
 ghost use Rattle.std.specs.Prelude.{◌≡◌, ◌+◌, ◌<◌, ◌^◌};
 ghost use Rattle.night.specs.Pass as specs;
-ghost use Rattle.night.specs.Pass.{blocks, passed};
+ghost use Rattle.night.specs.Pass.{Kept, blocks, passed};
 
 use crate::{LONGEST_RACK, Line, MOST_LABELS, Nearest, Night, Totals};
 use checks::{BLOCK, DIGEST};
@@ -32,7 +32,7 @@ impl Night {
 
     // Counts all blocks of a string, of which the last may be short.
     pub fn pass(&mut self, s: &[u8])
-        requires { self.old.totals.blocks + blocks s.now < 2 ^ 64 }
+        requires { Kept self.old × (self.old.totals.blocks + blocks s.now < 2 ^ 64) }
         ensures { self.new ≡ passed self.old s.now (blocks s.now) }
     {
         for block in s.chunks(BLOCK) {

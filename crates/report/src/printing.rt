@@ -1,5 +1,6 @@
 // The heading, the lines and the totals.
 ghost use Rattle.std.specs.Prelude.{◌≡◌, ◌++◌, ◌+◌, ◌*◌, ◌≤◌, length};
+ghost use Rattle.night.specs.Lines.{most_labels};
 ghost use Rattle.report.specs.Text.{Placed};
 ghost use Rattle.report.specs.Printed.{top_text, line_text, lines_text, totals_text, printed, most_text};
 
@@ -58,7 +59,7 @@ impl Page {
 
 // The whole report at the front of an area; answers how many bytes it has.
 pub fn print(night: &Night, area: &mut [u8]) -> usize
-    requires { most_text ≤ length area.old }
+    requires { (night.now.known ≤ most_labels) × (most_text ≤ length area.old) }
     ensures placed { Placed result 0 area.old area.new (printed night.now) }
     ensures upper_bound { result ≤ most_text }
 {

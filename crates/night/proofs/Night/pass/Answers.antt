@@ -6,7 +6,7 @@ use lib.ListN.{length}
 use Rattle.std.proofs.lemmas.List.{length_push}
 use Rattle.night.specs.declared.Night.{Night}
 use Rattle.night.specs.Pass.{step, passed}
-use Rattle.night.proofs.Keeping.{passed-blocks}
+use Rattle.night.proofs.Keeping.{kept_passed, passed-blocks}
 use Rattle.night.proofs.Passes.{passed_next, passed_none, block_here, blocks_left, block_within, blocks_over}
 use Rattle.night.proofs.Night.pass.Goals as goal
 
@@ -20,7 +20,7 @@ step-requires c =
     let k = c.loop-block.invariant in
     let e : c.loop-block.self.totals.blocks ≡ n.totals.blocks + i = ap (λ (m : Night). m.totals.blocks) k.3 ∙ passed-blocks n c.args.s.now i in
     let w = block_within c.args.s.now i _ k.1 c.in-Some.ensures.steps.1.2 in
-    omega (arith, c.requires)
+    (rw k.3 (kept_passed n c.args.s.now c.requires.0 i), omega (arith, c.requires.1))
 
 pub loop-block-preserved : goal.loop-block-preserved
 loop-block-preserved c =

@@ -13,20 +13,18 @@ loop-i-init c = sym (zero-add _)
 pub returns-then-is_same : goal.returns-then-is_same
 unfolding no_line new_line
 returns-then-is_same c =
-    let n = c.self.inside in
-    rw (← c.self.view_is)
-    (omega (arith, c.loop-i.invariant, place_here c.args.label (take n.known n.lines) c.loop-i.i c.loop-i-test.true (sym c.is_same.ensures ∙ c.if-is_same.true)))
+    let n = c.args.self.now in
+    omega (arith, c.loop-i.invariant, place_here c.args.label (take n.known n.lines) c.loop-i.i c.loop-i-test.true (sym c.is_same.ensures ∙ c.if-is_same.true))
 
 pub loop-i-preserved : goal.loop-i-preserved
 unfolding no_line new_line
 loop-i-preserved c =
-    let n = c.self.inside in
+    let n = c.args.self.now in
     omega (arith, c.loop-i.invariant, place_further c.args.label (take n.known n.lines) c.loop-i.i c.loop-i-test.true (sym c.is_same.ensures ∙ c.if-is_same.false))
 
 pub returns : goal.returns
 returns c =
-    let n = c.self.inside in
+    let n = c.args.self.now in
     let ls = take n.known n.lines in
     let e : place c.args.label (drop c.loop-i.i ls) ≡ 0 = ap (place c.args.label) (drop_of_length-le ls {i = c.loop-i.i} c.loop-i-test.false) ∙ place_end c.args.label in
-    rw (← c.self.view_is)
-    (omega (arith, c.loop-i.invariant, c.loop-i.auto.i-end, length-take-le n.known n.lines (omega (arith, c.self.invariant.few, c.self.invariant.places))))
+    omega (arith, c.loop-i.invariant, c.loop-i.auto.i-end, length-take-le n.known n.lines (omega (arith, c.requires, c.well_formed)))

@@ -6,5 +6,5 @@ use Rattle.night.proofs.Night.place_of.Given as goal
 
 abbrev pub invariant-loop-i : goal.invariant-loop-i
 invariant-loop-i l =
-    let ls = take l.self-inside.known l.self-inside.lines in
+    let ls = take l.self.known l.self.lines in
     place l.label ls ≡ l.i + place l.label (drop l.i ls)
