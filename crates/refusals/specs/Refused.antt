@@ -2,7 +2,12 @@
 use Rattle.std.specs.Prelude.{ℕ, Result, Ok, Err}
 use Rattle.refusals.specs as refusals
 use Rattle.refusals.specs.declared.Refusal.{Refusal}
-use Rattle.refusals.specs.declared.Refusal.TheVariants.{AreaTooShort, RecordNotSound, NotBlank, NotActive, NotPrepared, RackBroken, KeyNotInRack, RollOrRackAlone, LedgerExists, NoSuchLedger, OutOfOrder, HeightAtTop, TableFull, LabelZero, RollBroken, TooFew, NotAttested, SignatureNotValid, InitialiseNotValid, NotDerived, DigestDiffers, ListBroken, StatementNotAsked, NonceDiffers, InputTooLong, ListOfWrongLength, TextTooLong, StoreFull, BlockDamaged, NotLeading, BundleTooLarge, RackOfTwo, CompanyFull}
+use Rattle.refusals.specs.declared.Refusal.TheVariants.{
+    AreaTooShort, RecordNotSound, NotBlank, NotActive, NotPrepared, RackBroken, KeyNotInRack, RollOrRackAlone, LedgerExists, NoSuchLedger, OutOfOrder,
+    HeightAtTop, TableFull, LabelZero, RollBroken, TooFew, NotAttested, SignatureNotValid, InitialiseNotValid, NotDerived, DigestDiffers, ListBroken,
+    StatementNotAsked, NonceDiffers, InputTooLong, ListOfWrongLength, TextTooLong, StoreFull, BlockDamaged, NotLeading, BundleTooLarge, RackOfTwo,
+    CompanyFull
+}
 
 -- the number of a refusal
 abbrev pub refusal_number : Refusal → ℕ
