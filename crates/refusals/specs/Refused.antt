@@ -3,10 +3,39 @@ use Rattle.std.specs.Prelude.{ℕ, Result, Ok, Err}
 use Rattle.refusals.specs as refusals
 use Rattle.refusals.specs.declared.Refusal.{Refusal}
 use Rattle.refusals.specs.declared.Refusal.TheVariants.{
-    AreaTooShort, RecordNotSound, NotBlank, NotActive, NotPrepared, RackBroken, KeyNotInRack, RollOrRackAlone, LedgerExists, NoSuchLedger, OutOfOrder,
-    HeightAtTop, TableFull, LabelZero, RollBroken, TooFew, NotAttested, SignatureNotValid, InitialiseNotValid, NotDerived, DigestDiffers, ListBroken,
-    StatementNotAsked, NonceDiffers, InputTooLong, ListOfWrongLength, TextTooLong, StoreFull, BlockDamaged, NotLeading, BundleTooLarge, RackOfTwo,
-    CompanyFull
+  AreaTooShort,
+  RecordNotSound,
+  NotBlank,
+  NotActive,
+  NotPrepared,
+  RackBroken,
+  KeyNotInRack,
+  RollOrRackAlone,
+  LedgerExists,
+  NoSuchLedger,
+  OutOfOrder,
+  HeightAtTop,
+  TableFull,
+  LabelZero,
+  RollBroken,
+  TooFew,
+  NotAttested,
+  SignatureNotValid,
+  InitialiseNotValid,
+  NotDerived,
+  DigestDiffers,
+  ListBroken,
+  StatementNotAsked,
+  NonceDiffers,
+  InputTooLong,
+  ListOfWrongLength,
+  TextTooLong,
+  StoreFull,
+  BlockDamaged,
+  NotLeading,
+  BundleTooLarge,
+  RackOfTwo,
+  CompanyFull,
 }
 
 -- the number of a refusal
