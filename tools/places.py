@@ -64,15 +64,20 @@ def shape(body):
     return tuple(out)
 
 
+def own(texts):
+    """The functions but for those of mahqurith, which say again what they export: where each stands, its parameters and its body."""
+    for n, t in texts:
+        if "/mahqurith/" not in n:
+            for name, params, _, body in functions(t):
+                yield f"{n}: {name}", params, body
+
+
 def twins(texts):
     groups = collections.defaultdict(list)
-    for n, t in texts:
-        if "/mahqurith/" in n:
-            continue
-        for name, _, _, body in functions(t):
-            s = shape(body)
-            if len(s) >= LEAST_TOKENS:
-                groups[s].append(f"{n}: {name}")
+    for place, _, body in own(texts):
+        s = shape(body)
+        if len(s) >= LEAST_TOKENS:
+            groups[s].append(place)
     return [g for g in groups.values() if len(g) > 1]
 
 
@@ -89,13 +94,10 @@ def facts(texts):
 
 def together(texts):
     count = collections.defaultdict(list)
-    for n, t in texts:
-        if "/mahqurith/" in n:
-            continue
-        for name, params, _, _ in functions(t):
-            ps = [p.strip() for p in params.replace("\n", " ").split(",") if ":" in p]
-            for i in range(len(ps) - 2):
-                count[tuple(ps[i:i + 3])].append(f"{n}: {name}")
+    for place, params, _ in own(texts):
+        ps = [p.strip() for p in params.replace("\n", " ").split(",") if ":" in p]
+        for i in range(len(ps) - 2):
+            count[tuple(ps[i:i + 3])].append(place)
     return {f: w for f, w in count.items() if len(w) >= LEAST_CONTRACTS}
 
 
