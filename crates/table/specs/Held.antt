@@ -62,7 +62,7 @@ left_refused r = record { answer = refusing (refusal_number r) (refusal_height r
 
 -- where a call tells this by its result
 abbrev pub left_by : Result Done Refusal → Range ℕ → Left
-left_by (Ok d) rows = record { answer = answer_told (Ok d); head = cond d.repeat None (Some d.head); rows = rows }
+left_by (Ok d) rows = record { answer = answer_told (Ok d); head = cond d.repeat None (Some d.head); rows = record { start = rows.start; end = rows.end } }
 left_by (Err r) rows = left_refused r
 
 -- where a call that writes so many bytes gives the place of the one row that has changed

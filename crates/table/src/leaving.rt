@@ -3,7 +3,7 @@ ghost use Rattle.std.specs.Prelude.{◌≡◌, ◌<◌, IfOk};
 ghost use Rattle.rows.specs.Sizes.{most_rows};
 ghost use Rattle.table.specs.Held.{left_refused, left_by, left_moved};
 
-use crate::Left;
+use crate::{Left, Places};
 use refusals::Refusal;
 use rules::{Answer, Done};
 use std::ops::Range;
@@ -16,7 +16,7 @@ impl From<Refusal> for Left {
         Left {
             answer: Answer::from(refusal),
             head: None,
-            rows: 0..0,
+            rows: Places { start: 0, end: 0 },
         }
     }
 }
@@ -29,7 +29,10 @@ pub fn leave(told: Result<Done, Refusal>, rows: Range<usize>) -> Left
         Ok(done) => Left {
             answer: Answer::from(told),
             head: if done.repeat { None } else { Some(done.head) },
-            rows,
+            rows: Places {
+                start: rows.start,
+                end: rows.end,
+            },
         },
         Err(refusal) => Left::from(refusal),
     }
@@ -49,7 +52,10 @@ pub fn leave_moved(place: Result<usize, Refusal>, written: usize) -> Left
                 repeat: false,
             },
             head: None,
-            rows: i..i + 1,
+            rows: Places {
+                start: i,
+                end: i + 1,
+            },
         },
         Err(refusal) => Left::from(refusal),
     }

@@ -12,7 +12,6 @@ pub use lent::{flat_in, rows_clear, rows_out, rows_typed};
 pub use other::other_length;
 use rows::{LABEL, TAIL};
 use rules::{Answer, Head};
-use std::ops::Range;
 
 // A ledger's row.
 #[repr(C)]
@@ -23,12 +22,19 @@ pub struct Row {
     pub height: u64,
 }
 
+// From which place to before which one. It stands in for a `Range`, which is not `Copy`.
+#[derive(Clone, Copy)]
+pub struct Places {
+    pub start: usize,
+    pub end: usize,
+}
+
 // What a call leaves beside the table's bytes: its answer, the head where that is another one, and the rows that are others.
-#[derive(Drop)]
+#[derive(Clone, Copy)]
 pub struct Left {
     pub answer: Answer,
     pub head: Option<Head>,
-    pub rows: Range<usize>,
+    pub rows: Places,
 }
 
 // What a keeper is asked, at fixed sizes; each call reads what it needs.

@@ -45,6 +45,6 @@ pub fn change_rows<C: ChangesRows + Copy>(
     if let Some(head) = left.head {
         *h = head;
     }
-    rows_out(rows, &table, left.rows);
+    rows_out(rows, &table, left.rows.start..left.rows.end);
     left.answer
 }
