@@ -10,7 +10,7 @@ mod walks;
 
 pub use fitting::is_bundle;
 pub use lists::EntryList;
-pub use marked::{check_new_marks, check_old_marks};
+pub use marked::{check_new_marks, check_old_marks, unmarked_new, unmarked_old};
 pub use parts::{digests, new_entries, old_roll};
 pub use rolls::OldRolls;
 pub use walks::{

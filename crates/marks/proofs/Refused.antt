@@ -1,20 +1,20 @@
--- Laws of the refusals of marks: their numbers, one entry more, the first entry that is refused, what is known where none is, and lists that agree. Assumes
--- nothing.
+-- Laws of the refusals of marks: their numbers, one entry more, the first entry that is refused, what is known where none is, another number for a
+-- signature that is not valid, and lists that agree. Assumes nothing.
 use mathlib.Core.Path.{◌≡◌, refl, sym, ap, ap₂, ◌∙◌}
-use mathlib.Core.Bool.{Bool, true, false, not, ◌&&◌}
+use mathlib.Core.Bool.{Bool, true, false, not, cond, ◌&&◌}
 use mathlib.Core.List.{List, [], ◌∷◌, ◌++◌}
 use Prim.Native.Nat.{ℕ, zero, suc, ◌+◌, ◌<◌}
 use native.Mathlib.Decide.{dec_lt}
 use native.Mathlib.Nat.{not-suc-le-zero}
 use native.Mathlib.Numerals.{add-one}
 use native.Mathlib.Omega.{arith}
-use borrow.Author.Tests.{ne_eqb, eqb-false, not-false}
-use lib.Dec.{eqb}
-use Rattle.refusals.specs.{accepted, not_attested}
+use borrow.Author.Tests.{ne_eqb, eqb-true, eqb-false, not-false}
+use lib.Dec.{eqb, lit<}
+use Rattle.refusals.specs.{accepted, not_attested, signature_not_valid}
 use Rattle.refusals.specs.Order.{Test, first}
-use Rattle.refusals.proofs.Orders.{numbered, passes, stops, goes_on, none_refuses}
+use Rattle.refusals.proofs.Orders.{numbered, passes, first_then, stops, goes_on, none_refuses}
 use Rattle.marks.specs.{attested, valid, marks_fit}
-use Rattle.marks.specs.Entries.{mark_tests, marks_tests}
+use Rattle.marks.specs.Entries.{mark_tests, marks_tests, answer_with}
 use Rattle.marks.proofs.Four.{three}
 
 -- two lists of tests whose numbers are refusals, one behind the other
@@ -88,6 +88,40 @@ module _ (number : ℕ) (refusal : 0 < number) where
 
   pub unrefused-three : (m : ℕ) → marks_fit m ≡ true → first (mark_tests number m) ≡ accepted → m ≡ 3
   unrefused-three m h e = let p = unrefused m e in three m h p.0 p.1
+
+-- the tests with another number for a signature that is not valid
+pub mark_answer : (number m : ℕ) → answer_with number (first (mark_tests signature_not_valid m)) ≡ first (mark_tests number m)
+unfolding first mark_tests
+mark_answer number m = go (attested m) (valid m)
+  where
+    go :
+        (a v : Bool)
+        → answer_with number (cond (not a) not_attested (cond (not v) signature_not_valid accepted)) ≡ cond (not a) not_attested (cond (not v) number accepted)
+    go false v = refl
+    go true false = refl
+    go true true = refl
+
+module _ (number : ℕ) (refusal : 0 < number) where
+  then_answer : (a b : ℕ) → answer_with number (cond (eqb a accepted) b a) ≡ cond (eqb (answer_with number a) accepted) (answer_with number b) (answer_with number a)
+  then_answer a b = go (eqb a signature_not_valid) (eqb a accepted) refl refl
+    where
+      go :
+          (x y : Bool) → eqb a signature_not_valid ≡ x → eqb a accepted ≡ y
+          → answer_with number (cond (eqb a accepted) b a) ≡ cond (eqb (answer_with number a) accepted) (answer_with number b) (answer_with number a)
+      go true true p q = absurd (eqb-false 18 0 refl (sym (eqb-true a 18 p) ∙ eqb-true a 0 q))
+      go true false p q = rw (q, p, ne_eqb number accepted (some number refusal))
+      go false true p q = rw (p, q)
+      go false false p q = rw (p, q, p)
+
+  pub marks_answer : (marks : ℕ → ℕ) (c : ℕ) → answer_with number (first (marks_tests signature_not_valid marks c)) ≡ first (marks_tests number marks c)
+  unfolding first marks_tests
+  marks_answer marks zero = refl
+  marks_answer marks (suc c) =
+      ap (answer_with number) (first_then (marks_tests signature_not_valid marks c) (mark_tests signature_not_valid (marks c))
+      (marks-numbered signature_not_valid (lit< tt) marks c))
+      ∙ then_answer (first (marks_tests signature_not_valid marks c)) (first (mark_tests signature_not_valid (marks c)))
+      ∙ ap₂ (λ (a b : ℕ). cond (eqb a accepted) b a) (marks_answer marks c) (mark_answer number (marks c))
+      ∙ sym (first_then (marks_tests number marks c) (mark_tests number (marks c)) (marks-numbered number refusal marks c))
 
 -- marks that agree in the first c entries
 pub marks_alike : (number : ℕ) (m l : ℕ → ℕ) (c : ℕ) → ((i : ℕ) → i < c → m i ≡ l i) → marks_tests number m c ≡ marks_tests number l c

@@ -1,7 +1,7 @@
 -- Lists of entries, each of a position in a rack and marks. 01, "Handover bundle": "Positions strictly rise within each list and lie below the rack's size.";
 -- "Verdict": "Signers are pairs of position and marks, one byte each, .. positions strictly rising and below n, otherwise 22."; and "for each .. 17, 18".
-use Rattle.std.specs.Prelude.{Bool, true, not, ◌&&◌, List, [], ◌∷◌, ◌++◌, ℕ, zero, suc, ◌+◌, ◌*◌, get_or, ltb}
-use Rattle.refusals.specs.{not_attested}
+use Rattle.std.specs.Prelude.{Bool, true, not, cond, ◌&&◌, List, [], ◌∷◌, ◌++◌, ℕ, zero, suc, ◌+◌, ◌*◌, get_or, eqb, ltb}
+use Rattle.refusals.specs.{not_attested, signature_not_valid}
 use Rattle.refusals.specs.Order.{Test, ◌⇒◌}
 use Rattle.marks.specs.{attested, valid, marks_fit}
 
@@ -26,6 +26,10 @@ mark_tests number m = (not (attested m) ⇒ not_attested) ∷ (not (valid m) ⇒
 unfoldable pub marks_tests : ℕ → (ℕ → ℕ) → ℕ → List Test
 marks_tests number marks zero = []
 marks_tests number marks (suc c) = marks_tests number marks c ++ mark_tests number (marks c)
+
+-- the answer of such tests, where 18 is that of a signature that is not valid, with another number for it
+abbrev pub answer_with : ℕ → ℕ → ℕ
+answer_with number n = cond (eqb n signature_not_valid) number n
 
 -- pairs of position and marks that stand one behind the other in a string
 abbrev pub pair_position : List ℕ → ℕ → ℕ

@@ -6,7 +6,9 @@ mod entries;
 ghost use Rattle.std.specs.Prelude.{◌≡◌};
 ghost use Rattle.marks.specs.{attested, valid, marks_fit};
 
-pub use entries::{check_all, check_marks, entries_fit, entry_fits};
+pub use entries::{
+    answer_with, check_all, check_marks, entries_fit, entry_fits, mark_refusal, unmarked,
+};
 
 // Whether the chip attested the key.
 pub fn is_attested(marks: u8) -> bool

@@ -7,6 +7,6 @@ mod soundness;
 mod waking;
 
 pub use giving::give;
-pub use ready::{check_lent, check_ready};
+pub use ready::{check_lent, check_ready, unready};
 pub use soundness::{ACTIVE, BLANK, FINALISED, PREPARED, is_sound};
 pub use waking::{wake, woken};

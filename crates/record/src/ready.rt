@@ -5,7 +5,7 @@ ghost use Rattle.refusals.specs.Refused.{refusal_number, answer_of};
 ghost use Rattle.rules.specs.Outcomes.{Lent, lending, readiness};
 
 use crate::soundness::is_sound;
-use refusals::Refusal;
+use refusals::{ACCEPTED, Refusal};
 use rules::Head;
 
 // Refuses by room and soundness.
@@ -40,4 +40,16 @@ pub fn check_ready(
         return Err(otherwise);
     }
     Ok(())
+}
+
+// The first refusal among them, or 0; `number` is the one of another status.
+#[tactic(auto, unfolding(refusals::specs::Order::first, rules::specs::Outcomes::lending, rules::specs::Outcomes::readiness))]
+pub fn unready(head: Head, table: &[u8], area: &[u8], size: usize, status: u8, number: u32) -> u32
+    ensures { result ≡ first (readiness size status number (record { head = head; table = table.now; area = area.now })) }
+{
+    match check_lent(head, table, area, size) {
+        Err(refusal) => refusal.number(),
+        Ok(()) if head.status != status => number,
+        Ok(()) => ACCEPTED,
+    }
 }

@@ -1,0 +1,13 @@
+use mathlib.Core.Path.{ap, ◌∙◌}
+use mathlib.Core.List.{List}
+use Prim.Native.Nat.{ℕ}
+use Rattle.marks.specs.Entries.{answer_with}
+use Rattle.marks.proofs.Refused.{marks_answer}
+use Rattle.rules.specs.Bundle.{old_count, old_marks}
+use Rattle.bundle.proofs.marked.unmarked_old.Goals as goal
+
+pub returns : goal.returns
+returns c =
+    let s : List ℕ = c.args.s.now in
+    let n : ℕ = c.args.number in
+    c.answer_with.ensures ∙ ap (answer_with n) c.check_old_marks.ensures ∙ marks_answer n c.requires.0 (old_marks s) (old_count s)
