@@ -1,6 +1,6 @@
 -- What a call answers and leaves where the table is rows that the caller lends. 01, "Keeper record": "The ledger table is 63 rows lent by the caller. The
 -- record is sound when the table has 63 rows ..".
-use Rattle.std.specs.Prelude.{◌≡◌, cond, Result, Ok, Err, None, Some, List, ℕ, ◌+◌, ◌≤◌, length, eqb, ltb}
+use Rattle.std.specs.Prelude.{◌≡◌, Bool, not, cond, Result, Ok, Err, None, Some, List, ℕ, ◌+◌, ◌≤◌, length, eqb, ltb}
 use Rattle.std.specs.Option.{unwrap_or}
 use Rattle.std.specs.declared.ops.Range.{Range}
 use Rattle.refusals.specs.{area_too_short, record_not_sound}
@@ -60,10 +60,15 @@ Refuses rule size = (head : Head) (rows : List Row) (area : List ℕ) → AllTyp
 abbrev pub left_refused : Refusal → Left
 left_refused r = record { answer = refusing (refusal_number r) (refusal_height r); head = None; rows = record { start = 0; end = 0 } }
 
--- where a call tells this by its result
+-- where a call tells this by its result, with the head named as another one or not
+abbrev pub left_named : Result Done Refusal → Bool → Range ℕ → Left
+left_named (Ok d) changed rows =
+    record { answer = answer_told (Ok d); head = cond changed (Some d.head) None; rows = record { start = rows.start; end = rows.end } }
+left_named (Err r) changed rows = left_refused r
+
+-- where it is named unless the call is a repeat
 abbrev pub left_by : Result Done Refusal → Range ℕ → Left
-left_by (Ok d) rows = record { answer = answer_told (Ok d); head = cond d.repeat None (Some d.head); rows = record { start = rows.start; end = rows.end } }
-left_by (Err r) rows = left_refused r
+left_by result rows = left_named result (not (answer_told result).repeat) rows
 
 -- where a call that writes so many bytes gives the place of the one row that has changed
 abbrev pub left_moved : ℕ → Result ℕ Refusal → Left

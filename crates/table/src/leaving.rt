@@ -1,7 +1,7 @@
 // What a call leaves beside the table's bytes.
 ghost use Rattle.std.specs.Prelude.{◌≡◌, ◌<◌, IfOk};
 ghost use Rattle.rows.specs.Sizes.{most_rows};
-ghost use Rattle.table.specs.Held.{left_refused, left_by, left_moved};
+ghost use Rattle.table.specs.Held.{left_refused, left_named, left_by, left_moved};
 
 use crate::{Left, Places};
 use refusals::Refusal;
@@ -21,14 +21,14 @@ impl From<Refusal> for Left {
     }
 }
 
-// Where a call tells what it did, the rows in these places have changed, and the head unless it is a repeat.
-pub fn leave(told: Result<Done, Refusal>, rows: Range<usize>) -> Left
-    ensures { result ≡ left_by told rows }
+// Where a call tells what it did, the rows in these places have changed, and the head where the caller says so.
+pub fn leave_named(told: Result<Done, Refusal>, changed: bool, rows: Range<usize>) -> Left
+    ensures { result ≡ left_named told changed rows }
 {
     match told {
         Ok(done) => Left {
             answer: Answer::from(told),
-            head: if done.repeat { None } else { Some(done.head) },
+            head: if changed { Some(done.head) } else { None },
             rows: Places {
                 start: rows.start,
                 end: rows.end,
@@ -36,6 +36,13 @@ pub fn leave(told: Result<Done, Refusal>, rows: Range<usize>) -> Left
         },
         Err(refusal) => Left::from(refusal),
     }
+}
+
+// The head has changed unless the call is a repeat.
+pub fn leave(told: Result<Done, Refusal>, rows: Range<usize>) -> Left
+    ensures { result ≡ left_by told rows }
+{
+    leave_named(told, !Answer::from(told).repeat, rows)
 }
 
 // Where it writes so many bytes and gives the place of a row, that row alone has changed.

@@ -7,7 +7,7 @@ mod lent;
 mod other;
 
 pub use flattening::{flat, rows_of};
-pub use leaving::{leave, leave_moved};
+pub use leaving::{leave, leave_moved, leave_named};
 pub use lent::{flat_in, rows_clear, rows_out, rows_typed};
 pub use other::other_length;
 use rows::{LABEL, TAIL};
