@@ -5,8 +5,13 @@ use Prim.Native.Nat.{ℕ, ◌+◌, ◌-◌, ◌≤◌}
 use native.Mathlib.Nat.{zero-add, add_assoc}
 use native.Mathlib.Omega.{arith}
 use lib.ListN.{length, take, drop, length-append, length-take, length-drop}
-use lib.Seq.{drop-drop, take_at, drop_at, length-take-le, drop-length}
+use lib.Seq.{drop-drop, paste, take-length, take_at, drop_at, length-take-le, drop-length}
 use Rattle.octets.specs.Strings.{put}
+
+-- as the library has it for a copy
+pub put-paste : (d : List ℕ) (at : ℕ) (s : List ℕ) → paste d at s (length s) ≡ put d at s
+unfolding put
+put-paste d at s = rw (take-length s)
 
 -- as the checker has it of a part that is lent and comes back
 pub put-part : (d : List ℕ) (at : ℕ) (s : List ℕ) → take at d ++ (s ++ drop (at + length s - at) (drop at d)) ≡ put d at s

@@ -7,7 +7,10 @@ pub fn copy_at(dst: &mut [u8], at: usize, src: &[u8])
     requires { at + length src.now ≤ length dst.old }
     ensures { dst.new ≡ put dst.old at src.now }
 {
-    dst[at..at + src.len()].copy_from_slice(src);
+    // Byte by byte: with the library's copy the archive would ask for `memmove`, which a box need not have.
+    for (i, byte) in src.iter().enumerate() {
+        dst[at + i] = *byte;
+    }
 }
 
 // The N bytes of a string from a place on.
