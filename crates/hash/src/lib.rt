@@ -23,7 +23,8 @@ use words::joined_words;
 // The bytes of the longest input.
 pub const LONGEST: usize = 65536;
 
-// SHA-256 of a message.
+// SHA-256 of a message. It stays one body: as a part of each caller it would add a fifth to the archive's code.
+#[inline(never)]
 pub fn digest(message: &[u8]) -> [u8; 32]
     requires { length message.now ≤ longest }
     ensures { result ≡ sha256 message.now }

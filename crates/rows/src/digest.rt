@@ -10,6 +10,8 @@ const APPEND_MARK: u8 = 1;
 
 const ROLL_MARK: u8 = 2;
 
+// Never part of its callers, so that the message is gone from the stack before they go on.
+#[inline(never)]
 fn digest_of_rows(n: usize, rows: &[u8]) -> [u8; DIGEST]
     requires { (n ≤ most_rows) × (row_bytes * n ≤ length rows.now) }
     ensures { result ≡ digest_of_rows n rows.now }
@@ -30,6 +32,7 @@ pub fn roll_digest(count: usize, rows: &[u8]) -> [u8; DIGEST]
 }
 
 // The tail after an entry: what the tail before it and the entry's digest give.
+#[inline(never)]
 pub fn appended(tail: [u8; TAIL], entry: [u8; DIGEST]) -> [u8; TAIL]
     ensures { result ≡ appended tail entry }
 {
