@@ -2,11 +2,12 @@
 use mathlib.Core.Path.{◌≡◌, refl}
 use mathlib.Core.Bool.{Bool, true, false}
 use mathlib.Core.List.{List, [], ◌∷◌}
-use Prim.Native.Nat.{ℕ, ◌+◌, ◌*◌, ◌/◌, ◌≤◌}
+use Prim.Native.Nat.{ℕ, ◌+◌, ◌*◌, ◌/◌, ◌≤◌, ◌<◌}
 use native.Mathlib.Omega.{arith}
-use borrow.Author.Tests.{leb-true, eqb-true}
+use borrow.Author.Tests.{lt-ltb, le-ltb, leb-true, eqb-true}
 use lib.ListN.{length}
 use lib.Dec.{eqb, leb}
+use Rattle.refusals.specs.{accepted, area_too_short}
 use Rattle.octets.specs.Strings.{put}
 use Rattle.octets.specs.Layouts.{unwritten}
 use Rattle.octets.proofs.Puts.{put-put}
@@ -21,6 +22,15 @@ module _ (fits : Bool) (broken : ℕ) (body area : List ℕ) where
   pub filed-broken : fits ≡ false → record { answer = broken; count = 0; area = area } ≡ filed fits broken body area
   unfolding filed unwritten
   filed-broken f = rw f
+
+  pub filed_short : fits ≡ true → length area < block_bytes → record { answer = area_too_short; count = 0; area = area } ≡ filed fits broken body area
+  unfolding filed unwritten
+  filed_short f h = rw (f, lt-ltb (length area) block_bytes h)
+
+  pub filed_done :
+      fits ≡ true → block_bytes ≤ length area → record { answer = accepted; count = block_bytes; area = put area 0 (checked body) } ≡ filed fits broken body area
+  unfolding filed unwritten
+  filed_done f h = rw (f, le-ltb (length area) block_bytes h)
 
 -- a block's first bytes, and their check behind them
 pub check_behind :

@@ -5,7 +5,7 @@ ghost use Rattle.refusals.specs.Refused.{answer_of};
 ghost use Rattle.rack.specs.Racks.{most, rack_bytes};
 ghost use Rattle.filing.specs.Filed.{rack_body, rack_filed};
 
-use crate::writing::write_block;
+use crate::writing::{has_room, write_block};
 use checks::CHECKED;
 use octets::copy_at;
 use rack::is_rack;
@@ -29,6 +29,9 @@ fn put_rack(rack: &[u8], area: &mut [u8]) -> Result<usize, Refusal>
 {
     if !is_rack(rack) {
         return Err(Refusal::RackBroken);
+    }
+    if !has_room(area) {
+        return Err(Refusal::AreaTooShort);
     }
     write_block(rack_body(rack), area)
 }

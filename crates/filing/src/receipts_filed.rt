@@ -5,7 +5,7 @@ ghost use Rattle.refusals.specs.Refused.{answer_of};
 ghost use Rattle.octets.specs.Strings.{put};
 ghost use Rattle.filing.specs.Filed.{receipt_body, receipt_fits, receipt_filed};
 
-use crate::writing::write_block;
+use crate::writing::{has_room, write_block};
 use checks::CHECKED;
 use desk::Question;
 use octets::copy_at;
@@ -58,6 +58,9 @@ fn put_receipt(
 {
     if !is_fitting(s, signers) {
         return Err(Refusal::StatementNotAsked);
+    }
+    if !has_room(area) {
+        return Err(Refusal::AreaTooShort);
     }
     write_block(receipt_body(question, s, signers), area)
 }
