@@ -1,12 +1,23 @@
--- A function on every element of a list: what `map` calls, and zeros. Assumes nothing.
-use mathlib.Core.Path.{◌≡◌, refl, ap, sym, ◌∙◌}
-use mathlib.Core.List.{List, ◌∷◌, map}
-use Prim.Native.Nat.{ℕ, zero, suc}
+-- A function on every element of a list: a loop's turns, what `map` calls, and zeros. Assumes nothing.
+use mathlib.Core.Path.{◌≡◌, refl, ap, ap₂, sym, ◌∙◌}
+use mathlib.Core.List.{List, [], ◌∷◌, ◌++◌, map, map-append}
+use Prim.Native.Nat.{ℕ, zero, suc, ◌+◌, ◌<◌}
+use native.Mathlib.Numerals.{add-one}
 use native.Mathlib.Omega.{arith}
-use lib.ListN.{length, replicate, length-map, get_or-map}
+use lib.ListN.{length, get_or, take, set, replicate, length-map, get_or-map}
+use lib.Seq.{take-suc, take-suc-set}
 use Rattle.std.proofs.lemmas.List.{ext_get_or}
 use Rattle.std.specs.Array.{IsMapOf}
 use Rattle.std.specs.Fn.{Mut, Called}
+
+module _ {A B : Type 0} (f : A → B) where
+  -- one element more is stored
+  pub mapped_next :
+      (xs : List A) (ys : List B) (i : ℕ) (d : A) (v : B) → i < length xs → i < length ys → take i ys ≡ map f (take i xs) → v ≡ f (get_or xs i d)
+      → take (i + 1) (set ys i v) ≡ map f (take (i + 1) xs)
+  mapped_next xs ys i d v h k e q =
+      ap (λ (j : ℕ). take j (set ys i v)) (add-one i) ∙ take-suc-set ys i v k ∙ ap₂ (λ (l : List B) (x : B). l ++ (x ∷ [])) e q
+      ∙ sym (ap (λ (j : ℕ). map f (take j xs)) (add-one i) ∙ ap (map f) (take-suc xs i d h) ∙ map-append f (take i xs) (get_or xs i d ∷ []))
 
 -- a closure that answers a function's value gives that function on each element
 pub mapped_by : {F A B : Type 0} (g : Mut F (A × Unit) B) (h : A → B) (d : A) (f : F) (xs : List A) (ys : List B) (n : ℕ) → n ≡ length xs
