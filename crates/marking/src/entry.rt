@@ -33,7 +33,8 @@ fn new_entry(s: &[u8], number: u64) -> Option<usize>
     (begin + PAIR <= s.len()).then_some(begin)
 }
 
-// The entry of this number of a list.
+// The entry of this number of a list. It is a part of both calls: the first entry of a bundle is found in the time of a call.
+#[inline(always)]
 pub fn find_entry(s: &[u8], list: u8, number: u64) -> Option<usize>
     ensures { result ≡ then_some (has_entry s.now list number) (entry_at s.now list number) }
 {
