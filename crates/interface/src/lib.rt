@@ -6,6 +6,7 @@ mod hashing;
 mod judging;
 mod kinds;
 mod racks;
+mod reading;
 mod rolls;
 mod statements;
 

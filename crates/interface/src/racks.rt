@@ -3,6 +3,7 @@ ghost use Rattle.std.specs.Prelude.{◌≡◌};
 ghost use Rattle.interface.specs.Contents.{keys_of, places_of};
 ghost use Rattle.interface.specs.Calls.{reading_rack, writing_rack};
 
+use crate::reading::number_of;
 use crate::{Key, Rack, RackRead};
 use rack::{KEY_BYTES, Keys, MOST};
 use refusals::Written;
@@ -39,14 +40,11 @@ pub extern "C" fn mahqurith_read_rack(bytes: &[u8]) -> RackRead
     let mut keys = [[0u8; KEY_BYTES]; MOST];
     let read = rack::read_rack(bytes, &mut keys);
     let keys = places_of(keys);
-    match read {
-        Ok(count) => RackRead {
-            number: refusals::ACCEPTED,
-            rack: Rack { count, keys },
-        },
-        Err(refusal) => RackRead {
-            number: refusal.number(),
-            rack: Rack { count: 0, keys },
+    RackRead {
+        number: number_of(read),
+        rack: Rack {
+            count: read.unwrap_or(0),
+            keys,
         },
     }
 }

@@ -2,6 +2,7 @@
 ghost use Rattle.std.specs.Prelude.{◌≡◌};
 ghost use Rattle.interface.specs.Calls.{reading_roll, writing_roll};
 
+use crate::reading::number_of;
 use crate::{Roll, RollRead};
 use refusals::Written;
 use rows::TABLE;
@@ -14,14 +15,11 @@ pub extern "C" fn mahqurith_read_roll(bytes: &[u8]) -> RollRead
     let mut table = [0u8; TABLE];
     let read = roll::read_roll(bytes, &mut table);
     let rows = table::rows_of(&table);
-    match read {
-        Ok(count) => RollRead {
-            number: refusals::ACCEPTED,
-            roll: Roll { count, rows },
-        },
-        Err(refusal) => RollRead {
-            number: refusal.number(),
-            roll: Roll { count: 0, rows },
+    RollRead {
+        number: number_of(read),
+        roll: Roll {
+            count: read.unwrap_or(0),
+            rows,
         },
     }
 }
