@@ -7,6 +7,7 @@ pub mod Absorbed
 pub mod Digests
 pub mod Gap
 pub mod Padded
+pub mod Outcomes
 pub mod Promised
 pub mod Rounds
 pub mod Schedule

@@ -1,3 +1,4 @@
 -- The laws of refusals.
 pub mod Answered
+pub mod Ones
 pub mod Orders

@@ -3,6 +3,7 @@ pub mod Cuts
 pub mod Fields
 pub mod Held
 pub mod Laid
+pub mod Outcomes
 pub mod Puts
 pub mod Records
 pub mod Shapes
