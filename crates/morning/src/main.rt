@@ -147,9 +147,10 @@ fn mahqurith_report<R: Read, W: Write>(
     ensures { Prints (R.remaining input.old) (W.contents out.old) (W.contents out.new) result }
 {
     let mut night = Night::start();
-    read_all(rt, input, &mut night).map_err(Failure::Unread)?;
-    write_out(out, &night).map_err(Failure::Unwritten)?;
-    Ok(())
+    match read_all(rt, input, &mut night) {
+        Ok(()) => write_out(out, &night).map_err(Failure::Unwritten),
+        Err(e) => Err(Failure::Unread(e)),
+    }
 }
 
 fn fail<D: fmt::Display>(rt: &impl Eprint, what: &str, why: &D) -> ExitCode {
