@@ -3,6 +3,7 @@ use mathlib.Core.Path.{◌≡◌, refl, sym, ap, ap₂, ◌∙◌}
 use mathlib.Core.Bool.{Bool, true, false}
 use mathlib.Core.List.{List}
 use Prim.Native.Nat.{ℕ, zero, suc, ◌+◌, ◌-◌, ◌*◌, ◌≤◌}
+use native.Mathlib.Numerals.{add-one}
 use native.Mathlib.Omega.{arith}
 use borrow.Author.Tests.{eqb-true, eqb-false, eq-eqb, ne_eqb}
 use lib.ListN.{take, drop}
@@ -15,6 +16,11 @@ use Rattle.std.specs.Simd.{first_chunks}
 use Rattle.rows.specs.Digests.{appended}
 use Rattle.statement.specs.Kinds.{digest_bytes}
 use Rattle.rules.specs.Derivation.{grown}
+
+pub grown_more :
+    (tail s : List ℕ) (i : ℕ) → grown tail s (i + 1) ≡ appended (grown tail s i) (take digest_bytes (drop (digest_bytes * i) s))
+unfolding grown
+grown_more tail s i = rw (add-one i)
 
 -- the first digest may be appended first
 grown_behind :

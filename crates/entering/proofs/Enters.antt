@@ -29,9 +29,13 @@ use Rattle.entering.specs.Parts.{own_tests, old_tests, spoken, Takeable}
 pub digested : (s : List ℕ) → holds rack_layout s ≡ true → rack_digest (take (rack_bytes most) s) ≡ rack_digest s
 digested s h = ap rack_digest (rack_whole s h)
 
--- of a roll and a previous rack of which neither is alone, the one is there where the other is
-both : (roll previous : List ℕ) → cond (absent roll) (not (absent previous)) (absent previous) ≡ false → absent roll ≡ false → absent previous ≡ false
-both roll previous e some = rw some at e
+-- a roll and a previous rack of which neither is alone
+module _ (roll previous : List ℕ) (e : cond (absent roll) (not (absent previous)) (absent previous) ≡ false) where
+  pub neither : absent roll ≡ true → absent previous ≡ true
+  neither none = not-false (absent previous) (rw none at e)
+
+  pub both : absent roll ≡ false → absent previous ≡ false
+  both some = rw some at e
 
 -- the statement of any head fits
 pub spoken_fits : (h : Head) (table : List ℕ) → statement_fits (spoken h table) ≡ true

@@ -25,6 +25,7 @@ use Rattle.store.proofs.Tests.{read_damaged, read_none, read_done}
 use Rattle.statement.specs.Kinds.{digest_bytes}
 use Rattle.rules.specs.Derivation.{grown}
 use Rattle.rules.proofs.RowsParts.{part_cut, part_part}
+use Rattle.derivation.proofs.Growths.{grown_more}
 use Rattle.maker.specs.declared.Highest.{Highest}
 use Rattle.maker.specs.Lists.{room, answered, entry_digest, listed}
 use Rattle.maker.proofs.Orders.{never}
@@ -97,12 +98,6 @@ pub digest_part :
     → take digest_bytes (drop from store) ≡ digest_in (block_at store i)
 unfolding digest_in
 digest_part store i from p = part_there store i 24 digest_bytes from (omega arith) p
-
--- one digest more
-grown_more :
-    (tail s : List ℕ) (i : ℕ) → grown tail s (i + 1) ≡ appended (grown tail s i) (take digest_bytes (drop (digest_bytes * i) s))
-unfolding grown
-grown_more tail s i = rw (add-one i)
 
 -- a tail grows by what is listed more
 module _ (store label tail : List ℕ) (height : ℕ) where

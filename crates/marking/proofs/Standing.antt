@@ -24,6 +24,9 @@ module _ (s : List ℕ) where
   reached k e = ap (λ (x : ℕ). then_some (leb (old_at s x) (length s)) (old_at s x)) e
 
   module _ (i : ℕ) where
+    pub no_old : length s ≡ 0 → ltb i (old_count s) ≡ false
+    no_old e = le-ltb i (old_count s) (omega (arith, get_or-eq_default s 0 {n = 0} (omega arith)))
+
     pub no_new : length s ≤ new_at s → ltb i (new_count s) ≡ false
     no_new past = le-ltb i (new_count s) (omega (arith, get_or-eq_default s 0 {n = new_at s} past))
 

@@ -31,15 +31,37 @@ pub zero_end : (s : List ℕ) (i : ℕ) → length s ≤ i → all_zero (drop i 
 unfolding all_zero
 zero_end s i h = ap all_zero (drop_of_length-le s h)
 
-pub before_at_end : (a b : List ℕ) (i : ℕ) → length a ≤ i → before (drop i a) (drop i b) ≡ ltb i (length b)
-unfolding before
-before_at_end a b i h = go (dec_lt i (length b))
-  where
-    go : Dec (i < length b) → before (drop i a) (drop i b) ≡ ltb i (length b)
-    go (yes k) = ap₂ before (drop_of_length-le a h) (drop_next b i k) ∙ sym (lt-ltb i (length b) k)
-    go (no k) =
-        let le : length b ≤ i = omega arith in
-        ap₂ before (drop_of_length-le a h) (drop_of_length-le b le) ∙ sym (le-ltb i (length b) le)
+module _ (a b : List ℕ) (i : ℕ) where
+  pub same_step :
+      i < length a → i < length b
+      → same (drop i a) (drop i b) ≡ (eqb (get_or a i 0) (get_or b i 0) && same (drop (i + 1) a) (drop (i + 1) b))
+  unfolding same
+  same_step h k = ap₂ same (drop_next a i h) (drop_next b i k)
+
+  pub same_end : length a ≤ i → length b ≤ i → same (drop i a) (drop i b) ≡ true
+  unfolding same
+  same_end h k = ap₂ same (drop_of_length-le a h) (drop_of_length-le b k)
+
+  pub before_step :
+      i < length a → i < length b
+      → before (drop i a) (drop i b)
+      ≡ cond (eqb (get_or a i 0) (get_or b i 0)) (before (drop (i + 1) a) (drop (i + 1) b)) (ltb (get_or a i 0) (get_or b i 0))
+  unfolding before
+  before_step h k = ap₂ before (drop_next a i h) (drop_next b i k)
+
+  pub before_over : i < length a → length b ≤ i → before (drop i a) (drop i b) ≡ false
+  unfolding before
+  before_over h k = ap₂ before (drop_next a i h) (drop_of_length-le b k)
+
+  pub before_at_end : length a ≤ i → before (drop i a) (drop i b) ≡ ltb i (length b)
+  unfolding before
+  before_at_end h = go (dec_lt i (length b))
+    where
+      go : Dec (i < length b) → before (drop i a) (drop i b) ≡ ltb i (length b)
+      go (yes k) = ap₂ before (drop_of_length-le a h) (drop_next b i k) ∙ sym (lt-ltb i (length b) k)
+      go (no k) =
+          let le : length b ≤ i = omega arith in
+          ap₂ before (drop_of_length-le a h) (drop_of_length-le b le) ∙ sym (le-ltb i (length b) le)
 
 -- strings of different lengths are not the same
 pub same_lengths : (a b : List ℕ) → (length a ≡ length b → ⊥) → same a b ≡ false

@@ -1,12 +1,12 @@
 -- Parts of a list: cut out of it, and read or stored element by element. Assumes nothing.
 use mathlib.Core.Path.{◌≡◌, refl, sym, ap}
-use mathlib.Core.List.{List, [], ◌∷◌}
+use mathlib.Core.List.{List, [], ◌∷◌, ◌++◌}
 use Prim.Native.Nat.{ℕ, zero, suc, ◌+◌, ◌≤◌, ◌<◌}
 use native.Mathlib.Nat.{zero-add, suc-add, add_assoc, not-suc-le-zero, le_of_suc-le-suc}
 use native.Mathlib.Omega.{arith}
-use native.Mathlib.Numerals.{add-one}
-use lib.ListN.{length, get_or, take, drop, replicate}
-use lib.Seq.{drop-cons, take-nil}
+use native.Mathlib.Numerals.{add-one, add-two, add-three}
+use lib.ListN.{length, get_or, take, drop, set, replicate}
+use lib.Seq.{drop-cons, sets-eq, take-nil}
 
 -- a part of n elements from i on, cut at its end first
 pub drop-take : (i n : ℕ) (l : List ℕ) → drop i (take (i + n) l) ≡ take n (drop i l)
@@ -38,3 +38,9 @@ pub four_read :
     → take 4 (drop i l) ≡ get_or l i 0 ∷ get_or l (i + 1) 0 ∷ get_or l (i + 2) 0 ∷ get_or l (i + 3) 0 ∷ []
 four_read l i h =
     rw (part_cons l i 3 (omega arith), part_cons l (i + 1) 2 (omega arith), add_assoc i 1 1, part_cons l (i + 2) 1 (omega arith), add_assoc i 2 1, part_cons l (i + 3) 0 (omega arith))
+
+-- four stores in a row put four elements in place
+pub four_stores :
+    (l : List ℕ) (i a b c d : ℕ) → i + 4 ≤ length l
+    → set (set (set (set l i a) (i + 1) b) (i + 2) c) (i + 3) d ≡ take i l ++ (a ∷ b ∷ c ∷ d ∷ []) ++ drop (i + 4) l
+four_stores l i a b c d h = rw (add-one i, add-two i, add-three i) (sets-eq (a ∷ b ∷ c ∷ d ∷ []) l i h)

@@ -1,12 +1,13 @@
 -- Strings of one length joined, and a string cut into such pieces. Assumes nothing.
 use mathlib.Core.Path.{◌≡◌, refl, sym, ap, ap₂, ◌∙◌}
 use mathlib.Core.Bool.{true, ◌&&◌}
-use Prim.Native.Nat.{ℕ, zero, suc, ◌+◌, ◌*◌, ◌-◌, ◌≤◌}
-use native.Mathlib.Nat.{mul-zero, mul-suc, zero-add, suc-add, add_comm, mul-le-mul_left}
+use Prim.Native.Nat.{ℕ, zero, suc, ◌+◌, ◌*◌, ◌-◌, ◌≤◌, ◌<◌}
+use native.Mathlib.Nat.{mul-zero, mul-suc, zero-add, suc-add, add_comm, not-suc-le-zero, le_of_suc-le-suc, mul-le-mul_left}
+use native.Mathlib.Numerals.{add-one}
 use native.Mathlib.Omega.{arith}
 use mathlib.Core.List.{List, [], ◌∷◌, ◌++◌, append_assoc, append-nil, flatten}
-use lib.ListN.{length, take, drop, replicate, length-append, length-drop}
-use lib.Seq.{take_at, drop_at, take-add, drop-drop, take-append-le, drop-append-le, length-take-le}
+use lib.ListN.{length, get_or, take, drop, set, replicate, length-append, length-drop}
+use lib.Seq.{take-suc, set_at, take_at, drop_at, take-add, drop-drop, take-append-le, drop-append-le, length-take-le}
 use Rattle.octets.specs.Strings.{pieces, all_zero}
 use Rattle.octets.proofs.Parts.{take-replicate, drop-replicate}
 use Rattle.octets.proofs.RoundTrips.{and_left, and_right}
@@ -21,6 +22,11 @@ pub each_length : {k : ℕ} {l : List (List ℕ)} → Each k l → length (flatt
 unfolding flatten
 each_length {k} none = sym (mul-zero k)
 each_length {k} (more {x} {l} e es) = length-append x (flatten l) ∙ ap₂ (λ (a b : ℕ). a + b) e (each_length es) ∙ add_comm k (k * length l) ∙ sym (mul-suc k (length l))
+
+pub each_get : {k : ℕ} {l : List (List ℕ)} → Each k l → (i : ℕ) → i < length l → length (get_or l i []) ≡ k
+each_get none i h = absurd (not-suc-le-zero h)
+each_get (more e es) zero h = e
+each_get (more e es) (suc i) h = each_get es i (le_of_suc-le-suc h)
 
 pub each_take : {k : ℕ} {l : List (List ℕ)} → Each k l → (n : ℕ) → Each k (take n l)
 each_take es zero = none
@@ -40,6 +46,11 @@ flatten_append (x ∷ a) b = ap (λ (l : List ℕ). x ++ l) (flatten_append a b)
 pub flatten_one : (x : List ℕ) → flatten (x ∷ []) ≡ x
 unfolding flatten
 flatten_one x = append-nil x
+
+-- one string more
+pub flatten_next : (l : List (List ℕ)) (i : ℕ) → i < length l → flatten (take (i + 1) l) ≡ flatten (take i l) ++ get_or l i []
+flatten_next l i h =
+    rw (add-one i, take-suc l i [] h, flatten_append (take i l) (get_or l i [] ∷ []), flatten_one (get_or l i []))
 
 pub pieces-length : (k n : ℕ) (s : List ℕ) → length (pieces k n s) ≡ n
 unfolding pieces
@@ -68,6 +79,18 @@ pieces_append k (suc m) n s =
 pub pieces_snoc : (k n : ℕ) (s : List ℕ) → pieces k (n + 1) s ≡ pieces k n s ++ (take k (drop (k * n) s) ∷ [])
 unfolding pieces
 pieces_snoc k n s = pieces_append k n 1 s
+
+-- a piece stored behind those before it
+pub pieces_store :
+    (k m i : ℕ) (s z v : List ℕ) → i < m → v ≡ take k (drop (k * i) s)
+    → set (pieces k i s ++ replicate (m - i) z) i v ≡ pieces k (i + 1) s ++ replicate (m - (i + 1)) z
+pieces_store k m i s z v h e =
+    let u : m - i ≡ suc (m - (i + 1)) = omega arith in
+    let rest : List (List ℕ) = replicate (m - (i + 1)) z in
+    ap (λ (j : ℕ). set (pieces k i s ++ replicate j z) i v) u
+    ∙ set_at (pieces k i s) z rest v i (pieces-length k i s)
+    ∙ sym (append_assoc (pieces k i s) (v ∷ []) rest)
+    ∙ ap (λ (l : List (List ℕ)). l ++ rest) (ap (λ (x : List ℕ). pieces k i s ++ (x ∷ [])) e ∙ sym (pieces_snoc k i s))
 
 -- what stands behind the pieces does not matter
 pub pieces_front : (k n : ℕ) (s t : List ℕ) → k * n ≤ length s → pieces k n (s ++ t) ≡ pieces k n s

@@ -67,7 +67,7 @@ module _ (k : Lent) (label list : List ℕ) (expected n : ℕ) (e : n ≡ first 
         sym (ap (λ (m : ℕ). record { answer = refusing m (present_height k label); head = k.head }) (listed_many accepts ∙ rw (ap is_absent f)))
 
     module _ (i : ℕ) (f : sought k label ≡ Ok i) where
-      found_many : append_many_refusal receipt_size k label list expected ≡ first (ordered expected (present_height k label) (entries list))
+      pub found_many : append_many_refusal receipt_size k label list expected ≡ first (ordered expected (present_height k label) (entries list))
       unfolding first
       found_many = listed_many accepts ∙ rw (ap is_absent f)
 
@@ -78,7 +78,7 @@ module _ (k : Lent) (label list : List ℕ) (expected n : ℕ) (e : n ≡ first 
       pub table_long : length k.table ≡ table_bytes
       table_long = fit_length k.head.count k.table fit
 
-      height_there : height_of k.table i ≡ present_height k label
+      pub height_there : height_of k.table i ≡ present_height k label
       height_there = sym (ap (λ g. height_of k.table (row_number g)) f)
 
       -- a found ledger leaves the answer to the heights

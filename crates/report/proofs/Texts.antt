@@ -12,10 +12,22 @@ use lib.ListN.{length, get_or, take, set, length-append, length-set}
 use lib.Seq.{take-suc, take-suc-set}
 use lib.Dec.{eqb, ltb, lit<}
 use Rattle.io.specs.Digits.{hex_digit_ascii, last_digits}
+use Rattle.octets.specs.Strings.{put}
+use Rattle.octets.proofs.Puts.{put-put}
+use Rattle.octets.proofs.Fronts.{put_none}
 use Rattle.night.specs.declared.Line.{Line}
 use Rattle.night.specs.declared.Totals.{Totals}
-use Rattle.report.specs.Text.{hex_of, decimal, decimal_of}
+use Rattle.report.specs.Text.{hex_of, decimal, decimal_of, Placed}
 use Rattle.report.specs.Printed.{newline, spaced, top_text, line_text, lines_text, blocks_name, racks_name, over_name, damaged_name, totals_text}
+
+-- a text behind another
+pub placed_then :
+    (at : ℕ) (s t : List ℕ) (x y z : List ℕ) (q r : ℕ) → Placed q at x y s → Placed r q y z t → at + length s + length t ≤ length x → Placed r at x z (s ++ t)
+placed_then at s t x y z q r p o h =
+    record {
+      next = omega (arith, p.next, o.next, length-append s t);
+      left = o.left ∙ ap (λ (l : List ℕ). put l q t) p.left ∙ put-put x at s t q p.next h;
+    }
 
 -- a text behind another takes at most so much more
 pub appended_short : (x t y : List ℕ) (k : ℕ) → y ≡ x ++ t → length t ≤ k → length y ≤ length x + k
@@ -131,3 +143,6 @@ totals_short t =
       two_short blocks_name t.blocks racks_name t.racks,
       two_short over_name t.over damaged_name t.damaged,
     )
+
+pub placed_none : (at : ℕ) (x : List ℕ) → Placed at at x x []
+placed_none at x = record { next = omega arith; left = sym (put_none x at) }

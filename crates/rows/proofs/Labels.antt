@@ -34,11 +34,11 @@ unless_same x y = go (dec_lt x y)
     go (no n) = rw (le-ltb x y (omega arith)) (either (eqb x y))
 
 -- the number of the eight bytes from a place on
-abbrev eight : List ℕ → ℕ → ℕ
+abbrev pub eight : List ℕ → ℕ → ℕ
 eight rows at = number_of (take 8 (drop at rows))
 
 -- the order of two labels: by their first numbers, and where these are the same by the second
-abbrev by_halves : ℕ → ℕ → ℕ → ℕ → Bool
+abbrev pub by_halves : ℕ → ℕ → ℕ → ℕ → Bool
 by_halves a b c d = cond (eqb a c) (ltb b d) (ltb a c)
 
 before_sixteen :
@@ -82,7 +82,7 @@ module _ (s : List ℕ) (at : ℕ) where
       ∙ take-take 8 8 (drop (at + 8) s) (omega arith))
 
 module _ (s t : List ℕ) (os : Octets s) (ot : Octets t) (at from : ℕ) (hs : at + 16 ≤ length s) (ht : from + 16 ≤ length t) where
-  before_labels :
+  pub before_labels :
       before (take 16 (drop at s)) (take 16 (drop from t)) ≡ by_halves (eight s at) (eight s (at + 8)) (eight t from) (eight t (from + 8))
   before_labels =
       before_sixteen (take 16 (drop at s)) (take 16 (drop from t))

@@ -1,14 +1,14 @@
 -- Laws of what the calls ask first: what a keeper has whose record passes. Assumes nothing.
-use mathlib.Core.Path.{◌≡◌, refl}
-use mathlib.Core.Bool.{true, not, cond, ◌&&◌}
-use mathlib.Core.List.{List, ◌++◌}
+use mathlib.Core.Path.{◌≡◌, refl, ◌∙◌}
+use mathlib.Core.Bool.{Bool, true, false, not, cond, ◌&&◌}
+use mathlib.Core.List.{List, [], ◌∷◌, ◌++◌}
 use Prim.Native.Nat.{ℕ, ◌≤◌}
 use borrow.Author.Tests.{ltb-false, eqb-true, eqb-false, not-false}
 use lib.ListN.{length}
 use lib.Dec.{eqb, leb, ltb}
 use Rattle.refusals.specs.{accepted, area_too_short, record_not_sound}
-use Rattle.refusals.specs.Order.{Test, first}
-use Rattle.refusals.proofs.Orders.{numbered, stops, passes}
+use Rattle.refusals.specs.Order.{Test, ◌⇒◌, first}
+use Rattle.refusals.proofs.Orders.{numbered, stops, goes_on, passes}
 use Rattle.octets.proofs.RoundTrips.{and_left, and_right}
 use Rattle.rows.specs.Table.{rows_fit}
 use Rattle.rules.specs.declared.Head.{Head}
@@ -68,3 +68,15 @@ pub unlent_unready :
     → first (readiness size status number k) ≡ first (lending size k)
 unfolding readiness lending numbered
 unlent_unready size status number k n e refuses = stops (lending size k) _ n refl e refuses
+
+turned : (b : Bool) (n : ℕ) → cond (not b) n accepted ≡ cond b accepted n
+turned true n = refl
+turned false n = refl
+
+-- after room and soundness the status decides
+pub lent_ready :
+    (size status number : ℕ) (k : Lent) (n : ℕ) → n ≡ first (lending size k) → n ≡ accepted
+    → first (readiness size status number k) ≡ cond (eqb k.head.status status) accepted number
+unfolding first readiness lending numbered
+lent_ready size status number k n e accepts =
+    goes_on (lending size k) ((not (eqb k.head.status status) ⇒ number) ∷ []) n refl e accepts ∙ turned (eqb k.head.status status) number

@@ -1,5 +1,5 @@
 -- A statement put into an area part by part. Assumes nothing.
-use mathlib.Core.Path.{◌≡◌, refl, sym, ap, ◌∙◌}
+use mathlib.Core.Path.{◌≡◌, refl, sym, ap, ◌∙◌, subst}
 use mathlib.Core.List.{List, [], ◌∷◌, ◌++◌}
 use Prim.Native.Nat.{ℕ, ◌+◌, ◌≤◌}
 use native.Mathlib.Omega.{arith}
@@ -8,6 +8,7 @@ use Rattle.octets.specs.Numbers.{bytes_of}
 use Rattle.octets.specs.Strings.{put}
 use Rattle.octets.proofs.Numbers.{bytes_length}
 use Rattle.octets.proofs.Puts.{put-put}
+use Rattle.statement.specs.declared.Kind.{Kind}
 use Rattle.statement.specs.declared.Kind.TheVariants.{Read}
 use Rattle.statement.specs.declared.Statement.{Statement}
 use Rattle.statement.specs.Kinds.{receipt_size, reading_size, digest_bytes, number_bytes, identity_place, first_place, height_place, nonce_place, nonce_half}
@@ -56,3 +57,11 @@ statement_puts d k i b l h =
     ap (λ (s : List ℕ). put (put s identity_place i) first_place b) (set-put d 0 k (omega arith))
     ∙ ap (λ (s : List ℕ). put s first_place b) (put-put d 0 (k ∷ []) i identity_place refl (omega arith))
     ∙ put-put d 0 (k ∷ i) b first_place (omega arith) (omega arith)
+
+-- what follows the identity, where the kind is known
+module _ (v : Statement) (d : List ℕ) (k : Kind) (e : v.kind ≡ k) where
+  pub body_fits : first_place + length (body v v.kind) ≤ length d → first_place + length (body v k) ≤ length d
+  body_fits h = subst (λ (j : Kind). first_place + length (body v j) ≤ length d) e h
+
+  pub body-put : {r : List ℕ} → r ≡ put d first_place (body v k) → r ≡ put d first_place (body v v.kind)
+  body-put h = h ∙ ap (λ (j : Kind). put d first_place (body v j)) (sym e)
