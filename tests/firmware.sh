@@ -1,5 +1,6 @@
 #!/usr/bin/env bash
-# What docs/INTEGRATION.md says that a box's firmware has to give the archive: `memcpy` and `memset`, and so much stack for any call of a keeper.
+# What docs/INTEGRATION.md says that a box's firmware has to give the archive: `memcpy` and `memset`, and so much stack for the calls of a keeper, a
+# desk and a messenger.
 set -euo pipefail
 cd "$(dirname "$0")/.."
 .ci/need gcc ar

@@ -8,7 +8,7 @@ use crate::{Key, Rack, RackRead};
 use rack::{KEY_BYTES, Keys, MOST};
 use refusals::Written;
 
-// This and the next stay functions: between arrays there is no `From` of this crate's own. They stay loops: by `map` a rack is read in 1.6 to 3 times the time.
+// This and the next stay functions: between arrays there is no `From` of this crate's own. They stay loops: by `map` a rack is read or written in 1.6 to 2.8 times the time.
 fn keys_of(places: [Key; MOST]) -> Keys
     ensures { result ≡ keys_of places }
 {
