@@ -19,8 +19,9 @@ returns-then-not-is_fitting c =
 pub returns-then-not-has_room : goal.returns-then-not-has_room
 unfolding receipt_filed
 returns-then-not-has_room c =
-    filed_short (receipt_fits c.args.s.now c.args.signers.now) 23 (receipt_body c.args.question c.args.s.now c.args.signers.now) c.args.area.now (sym c.is_fitting.ensures ∙ c.if-not-is_fitting.false)
-    (leb-false block_bytes (length c.args.area.now) (sym c.has_room.ensures ∙ c.if-not-has_room.true))
+    let a = c.args in
+    filed_short (receipt_fits a.s.now a.signers.now) 23 (receipt_body a.question a.s.now a.signers.now) a.area.now
+    (sym c.is_fitting.ensures ∙ c.if-not-is_fitting.false) (leb-false block_bytes (length a.area.now) (sym c.has_room.ensures ∙ c.if-not-has_room.true))
 
 pub returns : goal.returns
 unfolding receipt_filed
